@@ -1,7 +1,6 @@
 -- the plans that can be built so far, and the rows that they stand for
 use Rattle.std.specs.Prelude.{◌≡◌, ℕ, zero, suc, List, [], ◌∷◌, ◌++◌, length, map}
 use Rattle.pm_values.specs.declared.table.TableDecl.{TableDecl}
-use Rattle.pm_values.specs.Table.{Relation}
 use Rattle.pm_plan.specs.declared.plan.Plan.{Plan}
 use Rattle.pm_plan.specs.Rows.{Db}
 use Rattle.pm_plan.specs.Tree.{Tree, Scan, Project, nodes_of}
@@ -24,6 +23,7 @@ plan_over decl =
     }
 
 -- the plan is that of all columns of the database's one table
-pub record Fits (plan : Plan) (db : Db) (table : Relation) : Type 0 where
-  pub only : db ≡ table ∷ []
-  pub planned : plan ≡ plan_over table.decl
+abbrev pub Fits : Plan → Db → Type 0
+Fits plan [] = ⊥
+Fits plan (table ∷ []) = plan ≡ plan_over table.decl
+Fits plan (table ∷ other ∷ tables) = ⊥

@@ -1,8 +1,8 @@
 -- what stands at each operator after some events: its count, and what is settled by its children's counts
-use Rattle.std.specs.Prelude.{◌≡◌, ℕ, length, take}
+use Rattle.std.specs.Prelude.{ℕ, ◌+◌, List, [], ◌∷◌, length, take}
 use Rattle.pm_plan.specs.declared.gauge.Gauge.{Gauge}
 use Rattle.pm_plan.specs.Rows.{Db, table_rows}
-use Rattle.pm_plan.specs.Tree.{Tree, Scan, Project, Each}
+use Rattle.pm_plan.specs.Tree.{Tree, Scan, Project}
 use Rattle.pm_plan.specs.Events.{events, counts}
 
 -- a count for each node
@@ -25,10 +25,11 @@ size_at db (Project child columns) = 0
 abbrev pub gauge_of : Db → Tree → ℕ → Counts → Gauge
 gauge_of db tree n K = record { handed = K n; settled = settled db tree n K; worst = 0; size = size_at db tree }
 
--- a gauge for each node
-abbrev pub Gauges : Type 0
-Gauges = ℕ → Gauge
+-- the gauges of the tree's nodes in preorder, its root being number n
+abbrev pub gauges_of : Db → Tree → ℕ → Counts → List Gauge
+gauges_of db (Scan table label) n K = gauge_of db (Scan table label) n K ∷ []
+gauges_of db (Project child columns) n K = gauge_of db (Project child columns) n K ∷ gauges_of db child (n + 1) K
 
--- the gauges of the counts, the tree's root being number n
-abbrev pub HasGauges : Db → Tree → ℕ → Counts → Gauges → Type 0
-HasGauges db tree n K G = Each (λ t m. G m ≡ gauge_of db t m K) tree n
+-- the gauges after the first t events
+abbrev pub gauges_at : Db → Tree → ℕ → List Gauge
+gauges_at db tree t = gauges_of db tree 1 (counts_at db tree t)

@@ -1,9 +1,9 @@
 //! The laws of the definitions, and worked examples of them, each the contract of a function that does nothing.
-ghost use Rattle.std.specs.Prelude.{◌≡◌, ℕ, ◌≤◌, List, [], ◌∷◌, length};
+ghost use Rattle.std.specs.Prelude.{◌≡◌, ℕ, ◌≤◌, List, [], ◌∷◌, length, All};
 ghost use Rattle.pm_values.specs.Table.{Relation, IsRelation};
 ghost use Rattle.pm_plan.specs.declared.plan.Plan.{Plan};
 ghost use Rattle.pm_plan.specs.Rows.{Db};
-ghost use Rattle.pm_plan.specs.Tree.{Tree, Each, total};
+ghost use Rattle.pm_plan.specs.Tree.{Tree, tree_of, total};
 ghost use Rattle.pm_plan.specs.Outputs.{output, whole_work, scanned_rows};
 ghost use Rattle.pm_plan.specs.Events.{events, trace, rows_at};
 ghost use Rattle.pm_plan.specs.Moments.{counts_at};
@@ -24,7 +24,7 @@ pub fn counts_are_events()
 
 /// The rows of a plan that fits are the rows of its query.
 pub fn rows_are_answer()
-    ensures { (plan : Plan) (db : Db) (table : Relation) → Fits plan db table → IsRelation table → output db (tree_over table.decl) ≡ answer (record { table = 0 }) db }
+    ensures { (plan : Plan) (db : Db) → Fits plan db → All IsRelation db → output db (tree_of plan.nodes) ≡ answer (record { table = 0 }) db }
 {}
 
 /// Three rows under a projection: each is handed out twice, once by the scan and right after by the projection.
