@@ -1,0 +1,17 @@
+//! Values, rows and tables of a database, and the small list and text types that every other crate shares.
+//!
+//! A contract sees a list type as the list of its items, a text as its bytes, and a table as its declaration
+//! and its rows. A table keeps in its type that its rows are what its declaration says.
+#![tactic(auto)]
+
+pub mod gate;
+pub mod items;
+pub mod table;
+pub mod text;
+pub mod value;
+
+pub use gate::{Gate, OpenGate};
+pub use items::{Bytes, Columns, Items, Names};
+pub use table::{ColumnDecl, ColumnDecls, Db, Table, TableDecl, TableDecls};
+pub use text::Txt;
+pub use value::{Kind, Kinds, Row, Rows, Value};
