@@ -1,0 +1,41 @@
+//! Lower and upper bounds of what each operator hands out, and of the whole work, from the gauges of a moment.
+ghost use Rattle.std.specs.Prelude.{◌≡◌, ◌<◌, ◌^◌, length};
+ghost use Rattle.pm_plan.specs.Tree.{tree_of, IsNumbered};
+ghost use Rattle.pm_cli.specs.Bounds.{bounds_of, work_of, lo_of, hi_of};
+ghost use Rattle.pm_cli.specs.Estimates.{whole_of};
+
+use pm_plan::{Bound, Gauge, Node, Plan, Whole};
+
+/// Writes each operator's bounds, in rows, in the plan's order.
+pub fn bounds_all(plan: &Plan, gauges: &[Gauge], into: &mut [Bound])
+    requires numbered { IsNumbered plan.now.nodes }
+    requires gauges { length gauges.now ≡ length plan.now.nodes }
+    requires room { length into.old ≡ length plan.now.nodes }
+    ensures { into.new ≡ bounds_of (tree_of plan.now.nodes) 1 gauges.now }
+{
+    let mut left = plan.nodes.len();
+    while left > 0 {
+        left -= 1;
+        into[left] = match plan.nodes.at(left) {
+            Node::Scan { .. } => {
+                let size = u128::from(gauges[left].size);
+                Bound { lo: size, hi: size }
+            }
+            Node::Project { child, .. } => into[*child as usize - 1],
+        };
+    }
+}
+
+/// The work done and the bounds of the whole work: the sums over all operators.
+pub fn whole(gauges: &[Gauge], bounds: &[Bound]) -> Whole
+    requires work { work_of gauges.now < 2 ^ 128 }
+    requires lo { lo_of bounds.now < 2 ^ 128 }
+    requires hi { hi_of bounds.now < 2 ^ 128 }
+    ensures { result ≡ whole_of gauges.now bounds.now }
+{
+    Whole {
+        work: gauges.iter().map(|gauge| gauge.handed).sum(),
+        lo: bounds.iter().map(|bound| bound.lo).sum(),
+        hi: bounds.iter().map(|bound| bound.hi).sum(),
+    }
+}

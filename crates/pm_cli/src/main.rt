@@ -1,0 +1,7 @@
+//! The program `progress`.
+#![tactic(auto)]
+
+pub mod bounds;
+pub mod estim;
+
+fn main() {}
