@@ -1,6 +1,6 @@
 -- what a progress line shows at a moment. The estimators dne, pmax and safe are those of Chaudhuri, Kaushik and
 -- Ramamurthy (2005), over sums of all pipelines
-use Rattle.std.specs.Prelude.{ℕ, ◌*◌, ◌^◌, ◌<◌, nat_lt, if◌then◌else◌, List, map, Option, None, Some}
+use Rattle.std.specs.Prelude.{ℕ, ◌*◌, ◌^◌, nat_lt, if◌then◌else◌, List, Option, None, Some}
 use Rattle.pm_fraction.specs.Root.{root}
 use Rattle.pm_cli.specs.declared.estim.Pipe.{Pipe}
 use Rattle.pm_plan.specs.declared.gauge.Gauge.{Gauge}
@@ -24,8 +24,8 @@ estimate pipes gauges bounds whole =
       work = whole.work;
       lo = whole.lo;
       hi = whole.hi;
-      dne_num = driven pipes (map (λ gauge. gauge.handed) gauges);
-      dne_den = driven pipes (map (λ bound. bound.hi) bounds);
+      dne_num = driven (λ gauge. gauge.handed) pipes gauges;
+      dne_den = driven (λ bound. bound.hi) pipes bounds;
       safe_den = safe_root whole.lo whole.hi;
     }
 

@@ -1,5 +1,6 @@
 -- pipelines, and the driver nodes that feed them. A pipeline ends at a blocking operator; a projection does not block
-use Rattle.std.specs.Prelude.{ℕ, Bool, true, false, if◌then◌else◌, ◌+◌, List, [], ◌∷◌}
+use Rattle.std.specs.Prelude.{ℕ, Bool, true, false, if◌then◌else◌, List, [], ◌∷◌, sum_by}
+use Rattle.std.specs.List.{zip}
 use Rattle.pm_cli.specs.declared.estim.Pipe.{Pipe}
 use Rattle.pm_plan.specs.Tree.{Tree, Scan, Project}
 
@@ -16,8 +17,6 @@ abbrev pub pipes_of : ℕ → Tree → List Pipe
 pipes_of number (Scan table label) = pipe_of number (Scan table label) ∷ []
 pipes_of number (Project child columns) = pipe_of number (Project child columns) ∷ pipes_of number child
 
--- the sum of the numbers that stand at driver nodes
-abbrev pub driven : List Pipe → List ℕ → ℕ
-driven [] numbers = 0
-driven (pipe ∷ pipes) [] = 0
-driven (pipe ∷ pipes) (k ∷ numbers) = (if pipe.driver then k else 0) + driven pipes numbers
+-- the sum of a number of each driver node
+abbrev pub driven : {X : Type 0} → (X → ℕ) → List Pipe → List X → ℕ
+driven number pipes items = sum_by (λ p. if p.0.driver then number p.1 else 0) (zip pipes items)

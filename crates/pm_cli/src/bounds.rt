@@ -1,7 +1,7 @@
 //! Lower and upper bounds of what each operator hands out, and of the whole work, from the gauges of a moment.
-ghost use Rattle.std.specs.Prelude.{◌≡◌, ◌<◌, ◌^◌, length};
+ghost use Rattle.std.specs.Prelude.{◌≡◌, ◌+◌, ◌<◌, ◌^◌, length};
 ghost use Rattle.pm_plan.specs.Tree.{tree_of, IsNumbered};
-ghost use Rattle.pm_cli.specs.Bounds.{bounds_of, work_of, lo_of, hi_of};
+ghost use Rattle.pm_cli.specs.Bounds.{bounds_of, node_bound, HasChildren, work_of, lo_of, hi_of};
 ghost use Rattle.pm_cli.specs.Estimates.{whole_of};
 
 use pm_plan::{Bound, Gauge, Node, Plan, Whole};
@@ -16,13 +16,22 @@ pub fn bounds_all(plan: &Plan, gauges: &[Gauge], into: &mut [Bound])
     let mut left = plan.nodes.len();
     while left > 0 {
         left -= 1;
-        into[left] = match plan.nodes.at(left) {
-            Node::Scan { .. } => {
-                let size = u128::from(gauges[left].size);
-                Bound { lo: size, hi: size }
-            }
-            Node::Project { child, .. } => into[*child as usize - 1],
-        };
+        into[left] = bound_of_node(plan.nodes.at(left), left, gauges, into);
+    }
+}
+
+/// The bounds of the operator at this place, from 0, once those of its children are there.
+fn bound_of_node(node: &Node, place: usize, gauges: &[Gauge], bounds: &[Bound]) -> Bound
+    requires gauge { place < length gauges.now }
+    requires children { HasChildren node.now (length bounds.now) }
+    ensures { result ≡ node_bound node.now (place + 1) gauges.now bounds.now }
+{
+    match node {
+        Node::Scan { .. } => {
+            let size = u128::from(gauges[place].size);
+            Bound { lo: size, hi: size }
+        }
+        Node::Project { child, .. } => bounds[*child as usize - 1],
     }
 }
 

@@ -1,5 +1,5 @@
 //! The pipelines of a plan, and the estimators of a progress line.
-ghost use Rattle.std.specs.Prelude.{◌≡◌, ◌<◌, ◌≤◌, ◌-◌, ◌^◌, length, map, slice_get, Some, IfOk, option_map};
+ghost use Rattle.std.specs.Prelude.{◌≡◌, ◌<◌, ◌≤◌, ◌-◌, ◌^◌, length, slice_get, Some, IfOk, option_map};
 ghost use Rattle.pm_plan.specs.Tree.{tree_of, IsNumbered};
 ghost use Rattle.pm_cli.specs.Pipelines.{pipes_of, driven};
 ghost use Rattle.pm_cli.specs.Estimates.{estimate};
@@ -70,18 +70,11 @@ impl Pipes {
 pub fn estimate(pipes: &Pipes, gauges: &[Gauge], bounds: &[Bound], whole: &Whole) -> Shown
     requires gauges { length gauges.now ≡ length pipes.now }
     requires bounds { length bounds.now ≡ length pipes.now }
-    requires handed { driven pipes.now (map (λ gauge. gauge.handed) gauges.now) < 2 ^ 128 }
-    requires within { driven pipes.now (map (λ bound. bound.hi) bounds.now) < 2 ^ 128 }
+    requires handed { driven (λ gauge. gauge.handed) pipes.now gauges.now < 2 ^ 128 }
+    requires within { driven (λ bound. bound.hi) pipes.now bounds.now < 2 ^ 128 }
     ensures { result ≡ estimate pipes.now gauges.now bounds.now whole.now }
 {
-    let mut dne_num = 0;
-    let mut dne_den = 0;
-    for (i, pipe) in pipes.pipes.iter().enumerate() {
-        if pipe.driver {
-            dne_num += gauges[i].handed;
-            dne_den += bounds[i].hi;
-        }
-    }
+    let pipes = pipes.pipes.as_slice();
     let safe_den = match whole.lo.checked_mul(whole.hi) {
         Some(product) => Some(root_floor(product)),
         None => None,
@@ -90,8 +83,30 @@ pub fn estimate(pipes: &Pipes, gauges: &[Gauge], bounds: &[Bound], whole: &Whole
         work: whole.work,
         lo: whole.lo,
         hi: whole.hi,
-        dne_num,
-        dne_den,
+        dne_num: handed_of_drivers(pipes, gauges),
+        dne_den: hi_of_drivers(pipes, bounds),
         safe_den,
     }
+}
+
+fn handed_of_drivers(pipes: &[Pipe], gauges: &[Gauge]) -> u128
+    requires { driven (λ gauge. gauge.handed) pipes.now gauges.now < 2 ^ 128 }
+    ensures { result ≡ driven (λ gauge. gauge.handed) pipes.now gauges.now }
+{
+    pipes
+        .iter()
+        .zip(gauges)
+        .map(|(pipe, gauge)| if pipe.driver { gauge.handed } else { 0 })
+        .sum()
+}
+
+fn hi_of_drivers(pipes: &[Pipe], bounds: &[Bound]) -> u128
+    requires { driven (λ bound. bound.hi) pipes.now bounds.now < 2 ^ 128 }
+    ensures { result ≡ driven (λ bound. bound.hi) pipes.now bounds.now }
+{
+    pipes
+        .iter()
+        .zip(bounds)
+        .map(|(pipe, bound)| if pipe.driver { bound.hi } else { 0 })
+        .sum()
 }
