@@ -30,12 +30,12 @@ impl Model for MemFiles {
     ghost Value = { MemState };
 
     ghost view = { λ m. record {
-        files = m.files.items;
-        fails = m.fails.items;
-        most = m.most;
-        calls = m.calls;
-        left = left_of m.files.items m.begun m.at;
-        log = m.log;
+      files = m.files.items;
+      fails = m.fails.items;
+      most = m.most;
+      calls = m.calls;
+      left = left_of m.files.items m.begun m.at;
+      log = m.log;
     } };
 
     ghost invariant = { λ m. (1 ≤ m.most) × IsPlace m.files.items m.begun m.at };

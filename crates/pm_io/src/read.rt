@@ -44,7 +44,12 @@ const CHUNK: u64 = 4096;
 /// The bytes of a whole file, of which there are at most `limit`.
 ///
 /// The name is begun once. Where memory is refused, the file has lost what was read.
-pub fn read_whole<F: Files>(alloc: Global, files: &mut F, name: Txt, limit: u64) -> Result<Vec<u8>, ReadOut>
+pub fn read_whole<F: Files>(
+    alloc: Global,
+    files: &mut F,
+    name: Txt,
+    limit: u64,
+) -> Result<Vec<u8>, ReadOut>
     requires { limit ≤ 2 ^ 32 }
     ensures held { F.held files.new ≡ F.held files.old }
     ensures last { F.last files.new ≡ name }
