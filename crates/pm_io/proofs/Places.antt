@@ -12,7 +12,7 @@ pub held_of-found : (files : List MemFile) (name : List ℕ) (place : ℕ) (file
 held_of-found files name place file within here same before =
     let found : slice_get files place ≡ Some file = slice_get-get_or files place file within ∙ ap Some (sym here) in
     let next : drop place files ≡ file ∷ drop (suc place) files =
-        drop-cons files place file within ∙ ap (λ (f : MemFile). f ∷ drop (suc place) files) (sym here) in
+    drop-cons files place file within ∙ ap (λ (f : MemFile). f ∷ drop (suc place) files) (sym here) in
     let first : held_of (file ∷ drop (suc place) files) name ≡ Some file.bytes = rw same refl in
     let at : Some (bytes_at files place) ≡ Some file.bytes = rw found refl in
     sym before ∙ ap (λ fs. held_of fs name) next ∙ first ∙ sym at

@@ -1,9 +1,8 @@
-use Rattle.std.specs.Prelude.{ℕ, ◌+◌, Bool, true, false, List, Option, Some, None, Result, Ok, Err}
+use Rattle.std.specs.Prelude.{ℕ, ◌+◌, Bool, true, false, List, Some, None, Result, Ok, Err}
 use Rattle.pm_io.specs.declared.fault.IoFault.{IoFault}
 use Rattle.pm_io.specs.declared.stand.Stand.TheVariants.{Fresh, Open, Absent, Broken}
 use Rattle.pm_io.specs.declared.log.ReadLog.{ReadLog}
 use Rattle.pm_io.specs.Counts.{counted}
-use Rattle.pm_io.specs.Files.{stand_of}
 
 -- before any call
 abbrev pub fresh : ReadLog

@@ -1,5 +1,5 @@
 -- files in memory as contracts see them, and what each call answers
-use Rattle.std.specs.Prelude.{◌≡◌, ◌==◌, ℕ, ◌<◌, ◌≤◌, Bool, true, false, List, [], ◌∷◌, length, drop, min, slice_get, Option, Some, None, Result, Ok, Err, is_some, unwrap_or, if◌then◌else◌}
+use Rattle.std.specs.Prelude.{◌==◌, ℕ, ◌<◌, ◌≤◌, Bool, List, [], ◌∷◌, length, drop, min, slice_get, Option, Some, None, Result, Ok, Err, is_some, unwrap_or, if◌then◌else◌}
 use Rattle.std.specs.List.{list_any}
 use Rattle.std.specs.Option.{option_map}
 use Rattle.std.specs.Str.{bytes_eq}

@@ -1,5 +1,5 @@
 -- a sink in memory as contracts see it, and what each call answers
-use Rattle.std.specs.Prelude.{◌==◌, ℕ, ◌-◌, ◌≤◌, Bool, true, false, ◌||◌, List, ◌++◌, length, take, min, Result, Ok, Err, if◌then◌else◌, nat_le}
+use Rattle.std.specs.Prelude.{◌==◌, ℕ, ◌-◌, Bool, true, false, ◌||◌, List, ◌++◌, length, take, min, Result, Ok, Err, if◌then◌else◌}
 use Rattle.pm_io.specs.declared.fault.IoFault.{IoFault}
 use Rattle.pm_io.specs.declared.fault.IoFault.TheVariants.{Failed}
 use Rattle.pm_io.specs.Counts.{counted}

@@ -18,6 +18,7 @@ pub trait Files {
 
     // how many begins and reads failed, and how many begins found no file
     ghost faults: { Self → ℕ };
+
     ghost absences: { Self → ℕ };
 
     // the name that was begun last; empty before any

@@ -4,11 +4,13 @@
 #![tactic(auto)]
 
 mod fault;
+mod files;
 mod log;
 mod mem_file;
 mod mem_files;
 mod mem_sink;
-mod files;
+mod os_files;
+mod os_sink;
 mod read;
 mod sink;
 mod stand;
@@ -17,12 +19,15 @@ mod write;
 
 pub use fault::IoFault;
 pub use files::Files;
-pub use log::ReadLog;
-pub use mem_file::MemFile;
 pub use mem_files::MemFiles;
 pub use mem_sink::MemSink;
+pub use os_files::OsFiles;
+pub use os_sink::OsSink;
 pub use read::{ReadOut, read_whole};
 pub use sink::Sink;
 pub use stand::Stand;
 pub use sure_files::SureFiles;
 pub use write::{WriteFault, write_whole};
+
+#[cfg(test)]
+mod tests;

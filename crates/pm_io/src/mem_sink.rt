@@ -25,14 +25,14 @@ impl Model for MemSink {
     ghost Value = { SinkState };
 
     ghost view = { λ s. record {
-        written = s.bytes.items;
-        room = s.room;
-        fails = s.fails.items;
-        finish_fails = s.finish_fails;
-        most = s.most;
-        writes = s.writes;
-        finished = s.finished;
-        faults = s.faults;
+      written = s.bytes.items;
+      room = s.room;
+      fails = s.fails.items;
+      finish_fails = s.finish_fails;
+      most = s.most;
+      writes = s.writes;
+      finished = s.finished;
+      faults = s.faults;
     } };
 
     ghost invariant = { λ s. (1 ≤ s.most) × (vec_len s.bytes ≤ s.room) × (s.room ≤ vec_capacity s.bytes) };
