@@ -1,0 +1,4 @@
+pub mod Drops
+pub mod Headed
+pub mod Counted
+pub mod Steps
