@@ -9,3 +9,5 @@ pub mod Ticks
 pub mod Running
 pub mod Sums
 pub mod Text
+pub mod RunState
+pub mod IsRun
