@@ -1,3 +1,5 @@
+pub mod BoundLists
+pub mod PipeLists
 pub mod Drops
 pub mod Headed
 pub mod Counted

@@ -1,3 +1,6 @@
+pub mod Bounds
+pub mod Pipelines
+pub mod Estimates
 pub mod Left
 pub mod Fresh
 pub mod Gauges

@@ -1,6 +1,8 @@
-// A progress monitor for SQL: runs a SELECT over CSV files and shows proved bounds of the work.
+//! The program `progress`.
 #![tactic(auto)]
 
+pub mod bounds;
+pub mod estim;
 pub mod exec;
 
 fn main() {}
