@@ -7,3 +7,4 @@ pub mod Gauges
 pub mod Ran
 pub mod Ticks
 pub mod Running
+pub mod NumbersRun
