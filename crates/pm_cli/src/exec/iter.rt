@@ -98,7 +98,7 @@ impl Iter {
         }
     }
 
-    /// A column of the row that this node handed out last, and `null` past the end.
+    /// A column of the row that this node has at hand, and `null` past the end.
     pub fn cell<'d>(
         &self,
         plan: &Plan,
