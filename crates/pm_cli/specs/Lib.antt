@@ -3,8 +3,10 @@ pub mod Pipelines
 pub mod Estimates
 pub mod Left
 pub mod Fresh
+pub mod NumbersRun
 pub mod Gauges
 pub mod Ran
 pub mod Ticks
 pub mod Running
-pub mod NumbersRun
+pub mod Text
+pub mod RunState

@@ -13,8 +13,8 @@ abbrev pub events_of : Ran → List Event
 events_of ran = events ran.db (tree_of ran.plan.nodes) 1
 
 -- how many they are
-abbrev pub work_of : Ran → ℕ
-work_of ran = whole_work ran.db (tree_of ran.plan.nodes)
+abbrev pub whole_work_of : Ran → ℕ
+whole_work_of ran = whole_work ran.db (tree_of ran.plan.nodes)
 
 abbrev pub tick_of : Option Event → Tick
 tick_of None = tick.End

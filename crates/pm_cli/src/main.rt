@@ -1,4 +1,4 @@
-//! The program `progress`.
+//! The program `progress`: it runs one SELECT over CSV files and shows, while it runs, how much of the work is done.
 #![tactic(auto)]
 
 pub mod bounds;
