@@ -3,6 +3,7 @@ pub mod Pipelines
 pub mod Estimates
 pub mod Left
 pub mod Fresh
+pub mod NumbersRun
 pub mod Gauges
 pub mod Ran
 pub mod Ticks
