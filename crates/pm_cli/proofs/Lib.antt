@@ -7,3 +7,4 @@ pub mod Steps
 pub mod Declared
 pub mod UnderPlan
 pub mod RootRows
+pub mod Turns

@@ -6,13 +6,14 @@ ghost use Rattle.pm_io.specs.Sink.{gained, GainsPart};
 ghost use Rattle.pm_plan.specs.Tree.{tree_of, IsNumbered};
 ghost use Rattle.pm_plan.specs.Fits.{Fits};
 ghost use Rattle.pm_plan.specs.Outputs.{whole_work};
+ghost use Rattle.pm_plan.specs.Moments.{counts_at};
 ghost use Rattle.pm_lines.specs.Rows.{row_line};
 ghost use Rattle.pm_cli.specs.Bounds.{bounds_of};
 ghost use Rattle.pm_cli.specs.Pipelines.{pipes_of};
 ghost use Rattle.pm_cli.specs.Estimates.{shown_of, shown_at};
 ghost use Rattle.pm_cli.specs.Sums.{SumsFit};
 ghost use Rattle.pm_cli.specs.Ticks.{HasRootRow, last_row, last_event, IsOf, events_of, whole_work_of};
-ghost use Rattle.pm_cli.specs.Text.{row_texts, row_part, is_due, progress_part, event_lines, head_text, end_text};
+ghost use Rattle.pm_cli.specs.Text.{row_texts, row_part, is_due, progress_part, event_lines, head_text, end_text, run_text};
 ghost use Rattle.pm_cli.specs.RunState.{CanTurn, whole_work_in, turn_text};
 
 use crate::bounds::{bounds_all, whole};
@@ -193,6 +194,37 @@ impl<'a> Run<'a> {
         ensures { result ≡ self.now.taken }
     {
         self.events
+    }
+
+    /// The rows that the root has handed out so far.
+    pub fn rows(&self) -> u128
+        ensures { result ≡ counts_at self.now.db (tree_of self.now.plan.nodes) self.now.taken 1 }
+    {
+        self.exec.gauges()[0].handed
+    }
+}
+
+/// Runs a plan over a database to its end, and writes the whole text.
+pub fn run_all<S: Sink>(
+    alloc: Global,
+    plan: &Plan,
+    db: &Db,
+    every: Option<u64>,
+    sink: &mut S,
+) -> Result<(), LineBad>
+    requires fits { Fits plan.now db.now }
+    requires every { IfSome every (λ n. 1 ≤ n) }
+    ensures whole { OnOk result (S.written sink.new ≡ gained (S.written sink.old) (run_text plan.now db.now every)) }
+    ensures failed { result ≡ Err LineBad.Write → Rose (S.faults sink.old) (S.faults sink.new) }
+    ensures faults { S.faults sink.old ≤ S.faults sink.new }
+{
+    let mut run = Run::begin(alloc, plan, db, every)?;
+    run.head(sink)?;
+    loop {
+        match run.turn(sink)? {
+            Turn::Went => {}
+            Turn::Ended => return Ok(()),
+        }
     }
 }
 
