@@ -8,3 +8,5 @@ pub mod Declared
 pub mod UnderPlan
 pub mod RootRows
 pub mod Turns
+pub mod Sides
+pub mod Certain

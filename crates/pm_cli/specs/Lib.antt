@@ -12,3 +12,4 @@ pub mod Sums
 pub mod Text
 pub mod RunState
 pub mod IsRun
+pub mod Certified

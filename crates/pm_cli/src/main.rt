@@ -3,7 +3,9 @@
 
 pub mod bounds;
 pub mod estim;
+pub mod build;
 pub mod exec;
+pub mod laws;
 pub mod run;
 
 fn main() {}
