@@ -1,0 +1,11 @@
+pub mod Bounds
+pub mod Pipelines
+pub mod Estimates
+pub mod Left
+pub mod Fresh
+pub mod Gauges
+pub mod Ran
+pub mod Ticks
+pub mod Running
+pub mod Text
+pub mod RunState

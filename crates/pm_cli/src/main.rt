@@ -1,0 +1,8 @@
+//! The program `progress`: it runs one SELECT over CSV files and shows, while it runs, how much of the work is done.
+#![tactic(auto)]
+
+pub mod bounds;
+pub mod estim;
+pub mod exec;
+
+fn main() {}
