@@ -4,3 +4,6 @@ pub mod Drops
 pub mod Headed
 pub mod Counted
 pub mod Steps
+pub mod Declared
+pub mod UnderPlan
+pub mod RootRows

@@ -7,5 +7,5 @@ pub mod Gauges
 pub mod Ran
 pub mod Ticks
 pub mod Running
+pub mod Sums
 pub mod Text
-pub mod RunState

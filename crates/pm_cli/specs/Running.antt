@@ -1,5 +1,6 @@
 -- what is true of every run
-use Rattle.std.specs.Prelude.{◌≡◌, ◌≤◌, ◌<◌, ◌^◌, drop, length}
+use Rattle.std.specs.Prelude.{◌≡◌, ◌≤◌, ◌<◌, ◌^◌, drop, length, All}
+use Rattle.pm_values.specs.Table.{IsRelation}
 use Rattle.pm_values.specs.declared.value.Value.TheVariants.{Null}
 use Rattle.pm_plan.specs.Tree.{tree_of}
 use Rattle.pm_plan.specs.Fits.{Fits}
@@ -15,6 +16,7 @@ ran_of a = record { plan = a.plan.now; db = a.db.now; taken = a.taken }
 -- the root has left what is left of the events, the gauges are those of the moment, and the root's row is at hand
 pub record IsRunning (a : Inside) : Type 0 where
   pub fits : Fits a.plan.now a.db.now
+  pub declared : All IsRelation a.db.now
   pub in_plan : InPlan a.plan.now.nodes 1
   pub iter : IsIterOf a.plan.now.nodes a.db.now 1 a.root
   pub left : events_left a.db.now a.plan.now.nodes 1 a.root ≡ drop a.taken (events_of (ran_of a))

@@ -1,5 +1,6 @@
 -- the text of a run: plan and header lines, then for each event its row and progress lines, and the end line
-use Rattle.std.specs.Prelude.{ℕ, zero, suc, ◌+◌, ◌-◌, ◌%◌, ◌==◌, ◌||◌, Bool, true, false, if◌then◌else◌, List, [], ◌∷◌, ◌++◌, length, slice_get, Option, None, Some}
+use Rattle.std.specs.Prelude.{ℕ, zero, suc, ◌+◌, ◌-◌, ◌%◌, ◌==◌, ◌||◌, Bool, true, false, if◌then◌else◌, List, [], ◌∷◌, ◌++◌, length, map, slice_get, Option, None, Some}
+use Rattle.std.specs.List.{zip}
 use Rattle.pm_values.specs.declared.value.Value.{Value}
 use Rattle.pm_values.specs.declared.value.Kind.{Kind}
 use Rattle.pm_values.specs.ValueText.{value_text}
@@ -15,9 +16,7 @@ use Rattle.pm_cli.specs.Estimates.{shown_at}
 
 -- the texts of a row's values, by the kinds of its columns
 abbrev pub row_texts : List Kind → Row → List (List ℕ)
-row_texts [] row = []
-row_texts (kind ∷ kinds) [] = []
-row_texts (kind ∷ kinds) (value ∷ row) = value_text kind value ∷ row_texts kinds row
+row_texts kinds row = map (λ p. value_text p.0 p.1) (zip kinds row)
 
 -- the row line of an event, which only the root's events have
 abbrev pub row_part : List Kind → Option Event → List ℕ

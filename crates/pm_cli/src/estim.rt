@@ -68,8 +68,6 @@ impl Pipes {
 
 /// What a progress line shows: the work and its bounds, dne over the driver nodes, and the lower side of safe.
 pub fn estimate(pipes: &Pipes, gauges: &[Gauge], bounds: &[Bound], whole: &Whole) -> Shown
-    requires gauges { length gauges.now ≡ length pipes.now }
-    requires bounds { length bounds.now ≡ length pipes.now }
     requires handed { driven (λ gauge. gauge.handed) pipes.now gauges.now < 2 ^ 128 }
     requires within { driven (λ bound. bound.hi) pipes.now bounds.now < 2 ^ 128 }
     ensures { result ≡ estimate pipes.now gauges.now bounds.now whole.now }

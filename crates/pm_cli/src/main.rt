@@ -4,5 +4,6 @@
 pub mod bounds;
 pub mod estim;
 pub mod exec;
+pub mod run;
 
 fn main() {}

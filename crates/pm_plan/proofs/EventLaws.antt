@@ -1,14 +1,15 @@
 -- the events of a tree: their nodes, the rows of each node, their number
-use Rattle.std.proofs.Common.{◌≡◌, ℕ, suc, ◌+◌, ◌<◌, ◌≤◌, true, false, cond, eqb, List, [], ◌∷◌, ◌++◌, length, map, refl, ap, ◌∙◌, inl, inr, arith, length-append}
+use Rattle.std.proofs.Common.{◌≡◌, ℕ, suc, ◌+◌, ◌<◌, ◌≤◌, true, false, cond, eqb, List, [], ◌∷◌, ◌++◌, length, map, take, refl, ap, ◌∙◌, inl, inr, arith, length-append}
 use Rattle.std.proofs.lemmas.Bool.{cases_Bool}
 use Rattle.std.specs.List.{flat_map, filter}
-use Rattle.std.proofs.lemmas.List.{length-map}
+use Rattle.std.proofs.lemmas.List.{length-map, length-take-le}
 use Rattle.std.proofs.lemmas.Bool.Decides.{nat_tests}
 use Rattle.pm_plan.specs.Rows.{Row, Db, table_rows, pick}
 use Rattle.pm_plan.specs.Tree.{Tree, Scan, Project, size, total}
-use Rattle.pm_plan.specs.Outputs.{output}
+use Rattle.pm_plan.specs.Outputs.{output, whole_work}
+use Rattle.pm_plan.specs.Moments.{counts_at}
 use Rattle.pm_plan.specs.Events.{Event, handed, after, events, rows_at, counts}
-use Rattle.pm_plan.proofs.EventLists.{Within, Within-wider, Within-only, Only-handed, Within-after, rows_at-handed, rows_at-after}
+use Rattle.pm_plan.proofs.EventLists.{Within, Within-take, Within-wider, Within-only, Only-handed, Within-after, rows_at-handed, rows_at-after}
 
 pub flat_map-one : (f : Row → Row) (rows : List Row) → flat_map (λ row. f row ∷ []) rows ≡ map f rows
 flat_map-one f [] = refl
@@ -99,3 +100,10 @@ total-counts t n (e ∷ es) w =
     total-same (counts (e ∷ es)) (λ m. one_at e.node m + counts es m) t n step
     ∙ total-plus (one_at e.node) (counts es) t n
     ∙ omega (arith, total-one e.node t n w.0 w.1, total-counts t n es w.2)
+
+-- the counts of a moment number its events
+pub counts-moment : (db : Db) (tree : Tree) (t : ℕ) → t ≤ whole_work db tree → total (λ u n. counts_at db tree t n) tree 1 ≡ t
+counts-moment db tree t within =
+    let long : t ≤ length (events db tree 1) = omega (arith, length-events db tree 1) in
+    total-counts tree 1 (take t (events db tree 1)) (Within-take 1 (1 + size tree) t (events db tree 1) (Within-events db tree 1))
+    ∙ length-take-le t (events db tree 1) long

@@ -1,6 +1,7 @@
 //! Iterators nested in one another, which hand out one row a step. The plan and the database are handed down to them.
-ghost use Rattle.std.specs.Prelude.{◌≡◌, ◌<◌, ◌≤◌, ◌^◌, length, IfOk};
+ghost use Rattle.std.specs.Prelude.{◌≡◌, ◌<◌, ◌≤◌, ◌^◌, length, slice_get, Some, IfOk};
 ghost use Rattle.pm_values.specs.declared.value.Value.TheVariants.{Null};
+ghost use Rattle.pm_values.specs.Table.{Relation, IsRelation};
 ghost use Rattle.pm_plan.specs.Rows.{Row, cell, table_rows};
 ghost use Rattle.pm_cli.specs.Left.{InPlan, IsIterOf, events_left, row_at_hand, StepsTo};
 ghost use Rattle.pm_cli.specs.Fresh.{HeadsTree, AreAll};
@@ -30,6 +31,7 @@ pub fn rows_of<'d>(db: &'d Db, table: u32) -> &'d Rows
     requires { table < length db.now }
     ensures rows { result.now ≡ table_rows db.now table }
     ensures few { length result.now ≤ 2 ^ 24 }
+    ensures declared { (relation : Relation) → slice_get db.now table ≡ Some relation → IsRelation relation }
 {
     db.at(table as usize).rows()
 }
