@@ -1,0 +1,6 @@
+//! The command-line program: it reads a schema, a query and the table that the query selects from.
+#![tactic(auto)]
+
+pub mod forms;
+
+fn main() {}
