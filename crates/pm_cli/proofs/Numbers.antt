@@ -79,13 +79,13 @@ pub number_once : (line : List ℕ) (a b : ℤ) → SpellsNumber line a → Spel
 number_once line a b s t =
     elim s.2 [
       | inl h ↦ elim t.2 [
-          | inl k ↦ let same : s.0 ≡ t.0 = cc in let n = ap number_of same in cc
-          | inr k ↦ absurd (minus_is_none s.0 t.0 s.1 (sym h.0 ∙ k.0))
-        ]
+        | inl k ↦ let same : s.0 ≡ t.0 = cc in let n = ap number_of same in cc
+        | inr k ↦ absurd (minus_is_none s.0 t.0 s.1 (sym h.0 ∙ k.0))
+      ]
       | inr h ↦ elim t.2 [
-          | inl k ↦ absurd (minus_is_none t.0 s.0 t.1 (sym k.0 ∙ h.0))
-          | inr k ↦ let same : s.0 ≡ t.0 = cc in let n = ap number_of same in cc
-        ]
+        | inl k ↦ absurd (minus_is_none t.0 s.0 t.1 (sym k.0 ∙ h.0))
+        | inr k ↦ let same : s.0 ≡ t.0 = cc in let n = ap number_of same in cc
+      ]
     ]
 
 number_small : (digits : List ℕ) → AreDigits digits → number_of digits < 10 ^ 18

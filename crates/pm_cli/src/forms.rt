@@ -69,8 +69,7 @@ pub fn have_one_reading()
     ensures schema { (bytes : List ℕ) (a b : Declared) → IsSchema bytes a → IsSchema bytes b → a ≡ b }
     ensures table { (bytes column : List ℕ) (a b : List (List Cell)) → IsTable bytes column a → IsTable bytes column b → a ≡ b }
     ensures relation { (schema bytes column : List ℕ) (decl : Declared) (rows : List (List Cell)) → IsSchema schema decl → decl.columns ≡ int_column column ∷ [] → IsTable bytes column rows → IsRelation (record { decl = decl; rows = rows }) }
-{
-}
+{}
 
 /// Texts in the forms, worked by hand.
 pub fn worked()
@@ -79,8 +78,7 @@ pub fn worked()
     ensures table { IsTable table_worked (codes "a") rows_worked }
     ensures number { SpellsNumber (codes "-0042") (negsuc 41) }
     ensures zero { SpellsNumber (codes "-0") (pos 0) }
-{
-}
+{}
 
 #[tactic(auto, unfolding(crate::specs::Reading::schema_parts))]
 fn schema_parts(bytes: &[u8]) -> Option<(&[u8], &[u8], &[u8], &[u8])>
@@ -210,7 +208,8 @@ fn is_short_name(name: &[u8]) -> bool
     ensures { IsTrue result ↔ IsShortName name.now }
 {
     match name {
-        [b'a'..=b'z', digits @ ..] => digits.len() <= 8 && digits.iter().all(|b| b.is_ascii_digit()),
+        [b'a'..=b'z', digits @ ..] => digits.len() <= 8
+            && digits.iter().all(|b| b.is_ascii_digit()),
         _ => false,
     }
 }

@@ -9,7 +9,10 @@ const SCHEMAS: [(bool, &str); 16] = [
     (false, "TABLE t FROM 't.csv' (a INT NOT NULL)"),
     (false, "TABLE t FROM 't.csv' (a INT NOT NULL);\n\n"),
     (false, "TABLE t FROM 't.csv' (a INT NOT NULL); "),
-    (false, "TABLE t FROM 't.csv' (a INT NOT NULL, b INT NOT NULL);"),
+    (
+        false,
+        "TABLE t FROM 't.csv' (a INT NOT NULL, b INT NOT NULL);",
+    ),
     (false, "TABLE t FROM 't.csv' (a INT);"),
     (false, "TABLE t FROM 't.txt' (a INT NOT NULL);"),
     (false, "TABLE t FROM t.csv (a INT NOT NULL);"),
