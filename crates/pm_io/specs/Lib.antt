@@ -1,0 +1,7 @@
+pub mod Counts
+pub mod Files
+pub mod Log
+pub mod MemState
+pub mod Reading
+pub mod Sink
+pub mod SinkState

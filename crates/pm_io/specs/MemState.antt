@@ -1,0 +1,67 @@
+-- files in memory as contracts see them, and what each call answers
+use Rattle.std.specs.Prelude.{◌==◌, ℕ, ◌<◌, ◌≤◌, Bool, List, [], ◌∷◌, length, drop, min, slice_get, Option, Some, None, Result, Ok, Err, is_some, unwrap_or, if◌then◌else◌}
+use Rattle.std.specs.List.{list_any}
+use Rattle.std.specs.Option.{option_map}
+use Rattle.std.specs.Str.{bytes_eq}
+use Rattle.pm_io.specs.declared.fault.IoFault.{IoFault}
+use Rattle.pm_io.specs.declared.fault.IoFault.TheVariants.{Failed}
+use Rattle.pm_io.specs.declared.log.ReadLog.{ReadLog}
+use Rattle.pm_io.specs.declared.mem_file.MemFile.{MemFile}
+use Rattle.pm_io.specs.Counts.{counted}
+
+pub record MemState : Type 0 where
+  -- the newest first
+  pub files : List MemFile
+  -- the numbers of the begins and reads that fail
+  pub fails : List ℕ
+  -- the most bytes that a read gives
+  pub most : ℕ
+  -- how many begins and reads there were
+  pub calls : ℕ
+  -- the bytes left of the file that was begun
+  pub left : List ℕ
+  pub log : ReadLog
+
+-- the bytes of the newest file of this name
+abbrev pub held_of : List MemFile → List ℕ → Option (List ℕ)
+held_of [] name = None
+held_of (file ∷ files) name = (if bytes_eq file.name name then Some file.bytes else held_of files name)
+
+-- the number is among those named
+abbrev pub is_named : List ℕ → ℕ → Bool
+is_named numbers n = list_any (λ number. number == n) numbers
+
+-- a begin fails where its number was named, and else says whether there is such a file
+abbrev pub begin_answer : MemState → List ℕ → Result Bool IoFault
+begin_answer s name =
+    (if is_named s.fails (counted s.calls) then Err Failed else Ok (is_some (held_of s.files name)))
+
+-- a read fails where its number was named, and else gives as many bytes as there are left, but no more than fit or
+-- may be given at once
+abbrev pub read_answer : MemState → ℕ → Result ℕ IoFault
+read_answer s room =
+    (if is_named s.fails (counted s.calls) then Err Failed else Ok (min room (min s.most (length s.left))))
+
+-- the bytes left after a begin of this name with this answer
+abbrev pub left_begun : List MemFile → List ℕ → Result Bool IoFault → List ℕ
+left_begun files name (Ok there) = unwrap_or (held_of files name) []
+left_begun files name (Err fault) = []
+
+-- how many bytes an answer took
+abbrev pub amount_of : Result ℕ IoFault → ℕ
+amount_of (Ok n) = n
+amount_of (Err fault) = 0
+
+-- the bytes of the file at this place
+abbrev pub bytes_at : List MemFile → ℕ → List ℕ
+bytes_at files place = unwrap_or (option_map (λ file. file.bytes) (slice_get files place)) []
+
+-- the bytes of the begun file from `at` on
+abbrev pub left_of : List MemFile → Option ℕ → ℕ → List ℕ
+left_of files None at = []
+left_of files (Some place) at = drop at (bytes_at files place)
+
+-- there is a file at the place, and `at` is not beyond its end
+abbrev pub IsPlace : List MemFile → Option ℕ → ℕ → Type 0
+IsPlace files None at = Unit {0}
+IsPlace files (Some place) at = (place < length files) × (at ≤ length (bytes_at files place))
