@@ -1,12 +1,12 @@
 -- What follows from the forms: one reading, and rows that fit.
-use Rattle.std.proofs.Common.{◌≡◌, ℕ, ◌≤◌, true, false, List, [], ◌∷◌, length, drop, Some, refl, sym, ap, subst, ◌∙◌, arith}
+use Rattle.std.proofs.Common.{◌≡◌, ℕ, List, [], ◌∷◌, length, drop, refl, sym, ap, subst, ◌∙◌, arith}
 use Rattle.std.specs.List.{AllByRecursion}
 use Rattle.std.proofs.lemmas.List.Elements.{All-from_recursion}
 use Rattle.pm_values.specs.declared.value.Value.{Value}
 use Rattle.pm_values.specs.declared.value.Value.TheVariants as value
 use Rattle.pm_values.specs.declared.table.TableDecl.{TableDecl}
-use Rattle.pm_values.specs.Table.{Relation, FitsColumns, IsRelation}
-use Rattle.pm_cli.specs.Forms.{IsSchema, IsTable, AreLines, declaration, int_column}
+use Rattle.pm_values.specs.Table.{FitsColumns, IsRelation}
+use Rattle.pm_cli.specs.Forms.{IsSchema, IsTable, AreLines, int_column}
 use Rattle.pm_cli.proofs.Parts.{some_is}
 use Rattle.pm_cli.proofs.Schemas.{schema_reads, schema_once}
 use Rattle.pm_cli.proofs.Numbers.{number_fits}

@@ -1,6 +1,8 @@
 pub mod Parts
-pub mod Laws
 pub mod Schemas
 pub mod Queries
 pub mod Numbers
 pub mod Tables
+pub mod Laws
+pub mod Verdicts
+pub mod Loading

@@ -1,5 +1,5 @@
 -- Decimal digits, and the one number that a spelling has.
-use Rattle.std.proofs.Common.{◌≡◌, ◌≢◌, ℕ, zero, suc, ℤ, pos, neg_ℤ, ◌+◌, ◌-◌, ◌-ℤ◌, ◌*◌, ◌^◌, ◌<◌, ◌≤◌, List, [], ◌∷◌, ◌++◌, length, get_or, take, Option, Some, None, MatchOption, refl, sym, ap, subst, ◌∙◌, append_assoc, arith, lit<, inl, inr, to_z, of_z}
+use Rattle.std.proofs.Common.{◌≡◌, ℕ, zero, suc, ℤ, pos, neg_ℤ, ◌+◌, ◌-◌, ◌-ℤ◌, ◌*◌, ◌^◌, ◌<◌, ◌≤◌, List, [], ◌∷◌, ◌++◌, length, get_or, take, Option, Some, None, MatchOption, refl, sym, ap, subst, ◌∙◌, arith, lit<, inl, inr, to_z, of_z}
 use Rattle.std.specs.Prelude.{FitsSigned}
 use Rattle.std.specs.Int.{w64, w128}
 use Rattle.std.specs.List.{AllByRecursion}
@@ -8,7 +8,7 @@ use Rattle.std.proofs.lemmas.Int.{ints}
 use Rattle.std.proofs.lemmas.List.{take_more, length-append, length-take}
 use Rattle.pm_cli.specs.Forms.{IsDigit, AreDigits, number_of, SpellsNumber}
 use Rattle.pm_cli.specs.Reading.{after}
-use Rattle.pm_cli.proofs.Parts.{some_is, after_takes, after_again, IsFree}
+use Rattle.pm_cli.proofs.Parts.{after_takes, after_again, IsFree}
 
 -- the empty-or-more digits stand for less than the power of ten of their number
 pub number_below : (digits : List ℕ) → AllByRecursion IsDigit digits → number_of digits < 10 ^ length digits

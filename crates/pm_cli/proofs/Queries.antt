@@ -1,5 +1,5 @@
 -- A query's text is read as its parts.
-use Rattle.std.proofs.Common.{◌≡◌, ℕ, List, ◌++◌, Option, Some, None, refl, sym, ap, ◌∙◌, append_assoc}
+use Rattle.std.proofs.Common.{◌≡◌, ℕ, List, ◌++◌, Some, None, sym, ap, ◌∙◌, append_assoc}
 use Rattle.std.specs.Prelude.{codes}
 use Rattle.pm_cli.specs.Forms.{IsEnd, IsQuery}
 use Rattle.pm_cli.specs.Reading.{after}

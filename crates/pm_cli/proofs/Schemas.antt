@@ -1,12 +1,12 @@
 -- A schema's text is read as its parts, and what is read so is a schema's text.
-use Rattle.std.proofs.Common.{◌≡◌, ◌≢◌, ℕ, ◌+◌, ◌<◌, ◌≤◌, List, [], ◌∷◌, ◌++◌, length, Option, Some, None, refl, sym, ap, subst, ◌∙◌, append_assoc, arith, lit<}
+use Rattle.std.proofs.Common.{◌≡◌, ℕ, ◌<◌, List, [], ◌∷◌, ◌++◌, Option, Some, None, refl, sym, ap, subst, ◌∙◌, append_assoc, arith, lit<}
 use Rattle.std.specs.Prelude.{codes}
 use Rattle.std.specs.List.{AllByRecursion}
 use Rattle.std.specs.Str.{IsAscii}
 use Rattle.std.proofs.lemmas.List.Elements.{All-from_recursion}
 use Rattle.std.proofs.lemmas.Str.Ascii.{IsAscii-from_all}
 use Rattle.pm_values.specs.declared.table.TableDecl.{TableDecl}
-use Rattle.pm_cli.specs.Forms.{IsLetter, IsDigit, IsShortName, IsEnd, IsSchema, file_name, schema_text, declaration}
+use Rattle.pm_cli.specs.Forms.{IsDigit, IsShortName, IsEnd, IsSchema, file_name, schema_text, declaration}
 use Rattle.pm_cli.specs.Reading.{◌>>=◌, after, cut, schema_parts}
 use Rattle.pm_cli.proofs.Parts.{some_is, after_takes, after_again, cut_takes, cut_again, IsFree}
 

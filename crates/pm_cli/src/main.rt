@@ -2,5 +2,8 @@
 #![tactic(auto)]
 
 pub mod forms;
+pub mod load;
+pub mod refusal;
+pub mod status;
 
 fn main() {}

@@ -1,4 +1,4 @@
-use Rattle.std.proofs.Common.{◌≡◌, Some, None, sym, ap, ◌∙◌, true, false}
+use Rattle.std.proofs.Common.{◌≡◌, Some, None, ap, ◌∙◌}
 use Rattle.std.proofs.lemmas.Bool.{false≢true}
 use Rattle.pm_cli.specs.Reading.{after}
 use Rattle.pm_cli.proofs.Queries.{query_no_front, query_no_name, query_found, query_ended}

@@ -1,5 +1,5 @@
-use Rattle.std.proofs.Common.{◌≡◌, ◌∷◌, [], Some, ap, sym, subst, arith, length-append}
-use Rattle.pm_cli.proofs.Tables.{HasRead, read_next, read_all, read_only, read_bad, read_more, not_empty, is_empty, room_for}
+use Rattle.std.proofs.Common.{Some, ap, subst}
+use Rattle.pm_cli.proofs.Tables.{HasRead, read_next, read_all, read_only, read_bad, not_empty, is_empty, room_for}
 use Rattle.pm_cli.proofs.Numbers.{number_wide}
 use Rattle.pm_cli.proofs.forms.rows_of.Goals as goal
 

@@ -1,4 +1,4 @@
-use Rattle.std.proofs.Common.{arith, ◌∙◌}
+use Rattle.std.proofs.Common.{arith}
 use Rattle.pm_cli.proofs.Numbers.{step_fits, digit_at, number_of-take_more}
 use Rattle.pm_cli.proofs.forms.value_of.Goals as goal
 
