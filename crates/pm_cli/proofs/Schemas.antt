@@ -61,7 +61,7 @@ parts_take bytes p e =
     let e2 = cut_takes 32 a.0 t.0 t.1 ∙ ap (λ (r : List ℕ). t.0.0 ++ 32 ∷ r) e3 in
     let all = after_takes (codes "TABLE ") bytes a.0 a.1 ∙ ap (λ (r : List ℕ). codes "TABLE " ++ r) e2 in
     let made : Parts = (t.0.0, f.0.0, n.0.0, d.0) in
-    subst (λ (q : Parts). bytes ≡ schema_text q.0 q.1 q.2 ++ q.3) (some_is made p d.2) (all ∙ sym (regrouped t.0.0 f.0.0 n.0.0 d.0))
+    subst (λ (q : Parts). bytes ≡ schema_text q.0 q.1 q.2 ++ q.3) (some_is made p d.2) (rw (regrouped t.0.0 f.0.0 n.0.0 d.0) all)
 
 -- ---- the public clauses
 

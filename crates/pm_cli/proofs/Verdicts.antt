@@ -1,14 +1,18 @@
 -- The words and the files call for one verdict.
-use Rattle.std.proofs.Common.{◌≡◌, ℕ, ◌≤◌, List, [], ◌∷◌, length, Option, Some, None, refl, sym, ap, subst, ◌∙◌, arith, inl, inr}
-use Rattle.std.specs.Prelude.{IfSome, IsSomeAnd}
+use Rattle.std.proofs.Common.{◌≡◌, ℕ, ◌≤◌, List, [], ◌∷◌, length, Option, Some, None, Result, Ok, Err, ◌⊎◌, refl, sym, ap, subst, ◌∙◌, arith, inl, inr}
+use Rattle.std.specs.Prelude.{IfSome, IfErr, IsErrOf, IsSomeAnd}
 use Rattle.pm_values.specs.declared.value.Value.{Value}
 use Rattle.pm_values.specs.declared.table.ColumnDecl.{ColumnDecl}
 use Rattle.pm_values.specs.declared.table.TableDecl.{TableDecl}
+use Rattle.pm_values.specs.Table.{Relation}
 use Rattle.pm_io.specs.Files.{Held}
 use Rattle.pm_cli.specs.declared.status.Role.{Role}
 use Rattle.pm_cli.specs.declared.status.Role.TheVariants as role
+use Rattle.pm_cli.specs.declared.refusal.Refusal.{Refusal}
+use Rattle.pm_cli.specs.declared.refusal.Refusal.TheVariants as refusal
 use Rattle.pm_cli.specs.Forms.{int_column, IsSchema, IsTable}
-use Rattle.pm_cli.specs.Verdict.{Verdict, NoFile, NotBuilt, Loaded, text_limit, table_limit, IsUnfit, FileCalls, IsTableOf, IsQueryOf, TableCalls, QueryCalls, SchemaCalls, Calls, Holds}
+use Rattle.pm_cli.specs.Refusal.{OnReadFault}
+use Rattle.pm_cli.specs.Verdict.{Verdict, NoFile, NotBuilt, Loaded, text_limit, table_limit, IsUnfit, FileCalls, IsTableOf, IsQueryOf, TableCalls, QueryCalls, SchemaCalls, Calls, Holds, verdict_of}
 use Rattle.pm_cli.proofs.Laws.{schema_one, table_one}
 
 unfit_not : {V : Type 0} (bytes : List ℕ) (limit : ℕ) (IsForm : List ℕ → V → Type 0) (v : V) → length bytes ≤ limit → IsForm bytes v → IsUnfit bytes limit IsForm → ⊥
@@ -72,3 +76,12 @@ pub only_from_called : (words : List (List ℕ)) (told : Option Held) (given : O
 only_from_called words None given h = tt
 only_from_called words (Some held) None h = λ verdict calls. tt
 only_from_called words (Some held) (Some v) h = λ verdict calls. calls_once words held v verdict h calls
+
+pub complete_from_only : (words : List (List ℕ)) (told : Option Held) (answer : Result Relation Refusal) (rose : Type 0) → IfSome told (λ held. (verdict : Verdict) → Calls words held verdict → IfSome (verdict_of answer) (λ v. v ≡ verdict)) → IfErr answer (OnReadFault rose) → IfSome told (λ held. (verdict : Verdict) → Calls words held verdict → (rose → ⊥) → (verdict_of answer ≡ Some verdict) ⊎ IsErrOf answer refusal.NoMemory)
+complete_from_only words None answer rose only fault = tt
+complete_from_only words (Some held) (Ok table) rose only fault = λ verdict calls none. inl (ap Some (only verdict calls))
+complete_from_only words (Some held) (Err refusal.Usage) rose only fault = λ verdict calls none. inl (ap Some (only verdict calls))
+complete_from_only words (Some held) (Err (refusal.NoFile r n)) rose only fault = λ verdict calls none. inl (ap Some (only verdict calls))
+complete_from_only words (Some held) (Err (refusal.ReadFault r n)) rose only fault = λ verdict calls none. absurd (none fault)
+complete_from_only words (Some held) (Err refusal.NotBuilt) rose only fault = λ verdict calls none. inl (ap Some (only verdict calls))
+complete_from_only words (Some held) (Err refusal.NoMemory) rose only fault = λ verdict calls none. inr refl

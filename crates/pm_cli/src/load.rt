@@ -3,13 +3,14 @@
 //! The order is: the words, the schema's file, the query's file, the table's file. The first that is not in order
 //! stops the loading.
 
-ghost use Rattle.std.specs.Prelude.{◌≡◌, ◌<◌, ◌≤◌, ◌^◌, ◌↔◌, ◌∷◌, [], List, ℕ, length, Option, MatchOption, IfSome, IfOk, IfErr, IsErrOf, OnOk};
+ghost use Rattle.std.specs.Prelude.{◌≡◌, ◌<◌, ◌≤◌, ◌^◌, ◌↔◌, ◌⊎◌, List, ℕ, length, Option, MatchOption, IfSome, IfOk, IfErr, IsErrOf, OnOk};
 ghost use Rattle.pm_io.specs.declared.stand.Stand.TheVariants as stand;
 ghost use Rattle.pm_io.specs.Counts.{Rose};
+ghost use Rattle.pm_io.specs.Files.{Held};
 ghost use Rattle.pm_cli.specs.declared.refusal.Refusal.TheVariants as refusal;
 ghost use Rattle.pm_cli.specs.declared.status.Role.TheVariants as roles;
 ghost use Rattle.pm_values.specs.Table.{IsRelation};
-ghost use Rattle.pm_cli.specs.Forms.{IsSchema, int_column};
+ghost use Rattle.pm_cli.specs.Forms.{IsSchema};
 ghost use Rattle.pm_cli.specs.Refusal.{OnNoFile, OnReadFault, IfFile, MatchFile};
 ghost use Rattle.pm_cli.specs.Verdict.{Verdict, Loaded, NoFile, NotBuilt, IsNoRun, IsRun, IsUnfit, IsTableOf, IsQueryOf, SchemaCalls, Calls, verdict_of, Holds, ReachesFile, Reaches, text_limit, table_limit};
 ghost use Rattle.pm_cli.specs.Stops.{IsAbsence, IsFault, IsMissing, IsUnread, IfHeld};
@@ -35,10 +36,15 @@ pub fn load<F: Files>(alloc: Global, words: &[Txt], files: &mut F) -> Result<Tab
     ensures faults { F.faults files.old ≤ F.faults files.new }
     ensures absences { F.absences files.old ≤ F.absences files.new }
 
-    // Where the files' bytes are told, an answer is what they call for, and no other comes but for memory and faults.
+    // Where the files' bytes are told, an answer is what they call for. What they call for is answered, unless
+    // memory was wanted or a file could not be read.
     ensures called { IfSome (F.held files.old) (λ held. IfSome (verdict_of result) (Calls words.now held)) }
     ensures only { IfSome (F.held files.old) (λ held. (verdict : Verdict) → Calls words.now held verdict → IfSome (verdict_of result) (λ given. given ≡ verdict)) }
+    ensures complete { IfSome (F.held files.old) (λ held. (verdict : Verdict) → Calls words.now held verdict → ¬ (Rose (F.faults files.old) (F.faults files.new)) → (verdict_of result ≡ Some verdict) ⊎ IsErrOf result refusal.NoMemory) }
     ensures usage { IsErrOf result refusal.Usage ↔ IsNoRun words.now }
+
+    // A schema's text declares the table.
+    ensures declared { IfOk result (λ table. (text : List ℕ) × IsSchema text table.decl) }
 
     // The file that is absent or could not be read is the one that was begun last, and it was its turn.
     ensures reached { IfErr result (IfFile (Reaches words.now (F.held files.old))) }
@@ -53,6 +59,11 @@ pub fn load<F: Files>(alloc: Global, words: &[Txt], files: &mut F) -> Result<Tab
         None => Err(Refusal::Usage),
     }
 }
+
+/// The words and the bytes of the files call for one thing.
+pub fn calls_for_one()
+    ensures { (words : List (List ℕ)) (held : Held) (a b : Verdict) → Calls words held a → Calls words held b → a ≡ b }
+{}
 
 fn names_of(words: &[Txt]) -> Option<(&Txt, &Txt)>
     ensures { MatchOption result (IsNoRun words.now) (λ names. IsRun words.now names.0.now names.1.now) }
@@ -76,6 +87,7 @@ fn load_files<F: Files>(
     ensures held { F.held files.new ≡ F.held files.old }
     ensures faults { F.faults files.old ≤ F.faults files.new }
     ensures absences { F.absences files.old ≤ F.absences files.new }
+    ensures declared { IfOk result (λ table. (text : List ℕ) × IsSchema text table.decl) }
     ensures loaded { IfOk result (λ table. IfSome (F.held files.old) (λ held. SchemaCalls held schema.now query.now (Loaded table))) }
     ensures stops { IfErr result (MatchFile
         (IsMissing (F.held files.old) (F.absences files.old) (F.absences files.new) (F.last files.new) (F.stand files.new) schema.now query.now)
@@ -92,7 +104,7 @@ fn load_schema<F: Files>(alloc: Global, files: &mut F, name: &Txt) -> Result<Tab
     ensures held { F.held files.new ≡ F.held files.old }
     ensures faults { F.faults files.old ≤ F.faults files.new }
     ensures absences { F.absences files.old ≤ F.absences files.new }
-    ensures declared { IfOk result (λ decl. (column : List ℕ) × (decl.columns ≡ int_column column ∷ [])) }
+    ensures declared { IfOk result (λ decl. (text : List ℕ) × IsSchema text decl) }
     ensures holds { IfOk result (λ decl. IfSome (F.held files.old) (λ held. Holds held name.now text_limit IsSchema decl)) }
     ensures stops { IfErr result (MatchFile
         (IsAbsence (F.held files.old) (F.absences files.old) (F.absences files.new) (F.last files.new) (F.stand files.new) roles.Schema name.now)
@@ -130,7 +142,7 @@ fn load_query<F: Files>(
 }
 
 fn load_rows<F: Files>(alloc: Global, files: &mut F, decl: &TableDecl) -> Result<Rows, Refusal>
-    requires { (column : List ℕ) × (decl.now.columns ≡ int_column column ∷ []) }
+    requires { (text : List ℕ) × IsSchema text decl.now }
     ensures held { F.held files.new ≡ F.held files.old }
     ensures faults { F.faults files.old ≤ F.faults files.new }
     ensures absences { F.absences files.old ≤ F.absences files.new }
@@ -176,3 +188,6 @@ fn read_file<F: Files>(
         Err(ReadOut::Memory) => Err(Refusal::NoMemory),
     }
 }
+
+#[cfg(test)]
+mod tests;
