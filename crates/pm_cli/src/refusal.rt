@@ -7,19 +7,25 @@ ghost use Rattle.pm_cli.specs.Refusal.{status_of};
 use crate::status::{Role, Status};
 use pm_values::Txt;
 use std::alloc::AllocError;
+use thiserror::Error;
 
 /// Why a table was not loaded. A file's name is the one that was begun.
-#[derive(Debug, Drop)]
+#[derive(Debug, Drop, Error)]
 pub enum Refusal {
     /// The words are not `run` and two names.
+    #[error("usage: run SCHEMA QUERY")]
     Usage,
     /// There is no file of this name.
+    #[error("there is no file {}", .name.as_str())]
     NoFile { role: Role, name: Txt },
     /// The file of this name could not be read to its end.
+    #[error("the file {} could not be read", .name.as_str())]
     ReadFault { role: Role, name: Txt },
     /// A file is longer than its limit, or not of its form.
+    #[error("a file is not of its form")]
     NotBuilt,
     /// There was no memory.
+    #[error("out of memory")]
     NoMemory,
 }
 
