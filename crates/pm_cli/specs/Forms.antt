@@ -30,13 +30,15 @@ abbrev pub file_name : List ℕ → List ℕ
 file_name file = file ++ codes ".csv"
 
 abbrev pub schema_text : List ℕ → List ℕ → List ℕ → List ℕ
-schema_text table file column = codes "TABLE " ++ table ++ codes " FROM '" ++ file_name file ++ codes "' (" ++ column ++ codes " INT NOT NULL);"
+schema_text table file column =
+    codes "TABLE " ++ table ++ codes " FROM '" ++ file_name file ++ codes "' (" ++ column ++ codes " INT NOT NULL);"
 
 abbrev pub int_column : List ℕ → ColumnDecl
 int_column name = record { name = name; kind = kind.Int; nullable = false }
 
 abbrev pub declaration : List ℕ → List ℕ → List ℕ → TableDecl
-declaration table file column = record { name = table; file = file_name file; columns = int_column column ∷ []; key = None; order = None }
+declaration table file column =
+    record { name = table; file = file_name file; columns = int_column column ∷ []; key = None; order = None }
 
 -- the bytes are a schema's text, and the declaration is what it declares
 pub record IsSchema (bytes : List ℕ) (decl : TableDecl) : Type 0 where
@@ -72,10 +74,16 @@ pub record AreDigits (digits : List ℕ) : Type 0 where
   pub some : 1 ≤ length digits
   pub few : length digits ≤ 18
 
+abbrev pub IsPlain : List ℕ → List ℕ → ℤ → Type 0
+IsPlain spelling digits number = (spelling ≡ digits) × (number ≡ pos (number_of digits))
+
+abbrev pub IsSigned : List ℕ → List ℕ → ℤ → Type 0
+IsSigned spelling digits number = (spelling ≡ 45 ∷ digits) × (number ≡ neg_ℤ (pos (number_of digits)))
+
 -- digits, or a minus sign and digits
 abbrev pub SpellsNumber : List ℕ → ℤ → Type 0
 SpellsNumber spelling number =
-    (digits : List ℕ) × AreDigits digits × (((spelling ≡ digits) × (number ≡ pos (number_of digits))) ⊎ ((spelling ≡ 45 ∷ digits) × (number ≡ neg_ℤ (pos (number_of digits)))))
+    (digits : List ℕ) × AreDigits digits × (IsPlain spelling digits number ⊎ IsSigned spelling digits number)
 
 -- the bytes begin with a line of this number, and the rest follows
 abbrev pub BeginsLine : List ℕ → ℤ → List ℕ → Type 0
@@ -84,7 +92,8 @@ BeginsLine bytes number rest = (line : List ℕ) × (bytes ≡ line ++ 10 ∷ re
 -- the bytes are a line of its one number for each row
 abbrev pub AreLines : List ℕ → List (List Value) → Type 0
 AreLines bytes [] = bytes ≡ []
-AreLines bytes (row ∷ rows) = (number : ℤ) × (rest : List ℕ) × BeginsLine bytes number rest × (row ≡ value.Int number ∷ []) × AreLines rest rows
+AreLines bytes (row ∷ rows) =
+    (number : ℤ) × (rest : List ℕ) × BeginsLine bytes number rest × (row ≡ value.Int number ∷ []) × AreLines rest rows
 
 -- the bytes are a line with the column's name, and then the lines of at most 2^24 rows
 pub record IsTable (bytes column : List ℕ) (rows : List (List Value)) : Type 0 where

@@ -35,10 +35,12 @@ abbrev pub IsUnfit : {V : Type 0} → List ℕ → ℕ → (List ℕ → V → T
 IsUnfit {V} bytes limit IsForm = (limit < length bytes) ⊎ ((v : V) → IsForm bytes v → ⊥)
 
 -- what a file calls for: its absence, NoFile; unfit bytes, NotBuilt; and bytes of the form what comes next
-abbrev pub FileCalls : {V : Type 0} → Option (List ℕ) → ℕ → (List ℕ → V → Type 0) → Role → (V → Verdict → Type 0) → Verdict → Type 0
+abbrev pub FileCalls : {V : Type 0} → Option (List ℕ) → ℕ → (List ℕ → V → Type 0) → Role → (V → Verdict → Type 0)
+    → Verdict → Type 0
 FileCalls None limit IsForm role next verdict = verdict ≡ NoFile role
 FileCalls {V} (Some bytes) limit IsForm role next verdict =
-    ((v : V) × (length bytes ≤ limit) × IsForm bytes v × next v verdict) ⊎ (IsUnfit bytes limit IsForm × (verdict ≡ NotBuilt))
+    ((v : V) × (length bytes ≤ limit) × IsForm bytes v × next v verdict)
+    ⊎ (IsUnfit bytes limit IsForm × (verdict ≡ NotBuilt))
 
 -- the bytes are those of the declared table's one column
 abbrev pub IsTableOf : TableDecl → List ℕ → List (List Value) → Type 0
@@ -50,7 +52,8 @@ IsQueryOf decl bytes _ = IsQuery bytes decl.name
 -- the files in the order of their reading: schema, query, table
 abbrev pub TableCalls : Held → TableDecl → Verdict → Type 0
 TableCalls held decl =
-    FileCalls (held decl.file) table_limit (IsTableOf decl) (role.Table 0) (λ rows verdict. verdict ≡ Loaded (record { decl = decl; rows = rows }))
+    FileCalls (held decl.file) table_limit (IsTableOf decl) (role.Table 0)
+    (λ rows verdict. verdict ≡ Loaded (record { decl = decl; rows = rows }))
 
 abbrev pub QueryCalls : Held → List ℕ → TableDecl → Verdict → Type 0
 QueryCalls held query decl = FileCalls (held query) text_limit (IsQueryOf decl) role.Query (λ _. TableCalls held decl)
@@ -61,7 +64,8 @@ SchemaCalls held schema query = FileCalls (held schema) text_limit IsSchema role
 -- what the words and the files call for
 abbrev pub Calls : List (List ℕ) → Held → Verdict → Type 0
 Calls words held verdict =
-    ((schema : List ℕ) × (query : List ℕ) × IsRun words schema query × SchemaCalls held schema query verdict) ⊎ (IsNoRun words × (verdict ≡ Usage))
+    ((schema : List ℕ) × (query : List ℕ) × IsRun words schema query × SchemaCalls held schema query verdict)
+    ⊎ (IsNoRun words × (verdict ≡ Usage))
 
 -- the verdict that an answer gives; want of memory and a fault of reading give none
 abbrev pub verdict_of : Result Relation Refusal → Option Verdict
@@ -84,7 +88,10 @@ ReachesFile schema query told role.Schema name = name ≡ schema
 ReachesFile schema query told role.Query name =
     (name ≡ query) × IfSome told (λ held. (decl : TableDecl) × Holds held schema text_limit IsSchema decl)
 ReachesFile schema query told (role.Table place) name =
-    (place ≡ 0) × IfSome told (λ held. (decl : TableDecl) × Holds held schema text_limit IsSchema decl × Holds held query text_limit (IsQueryOf decl) tt × (name ≡ decl.file))
+    (place ≡ 0)
+    × IfSome told (λ held. (decl : TableDecl) × Holds held schema text_limit IsSchema decl
+    × Holds held query text_limit (IsQueryOf decl) tt × (name ≡ decl.file))
 
 abbrev pub Reaches : List (List ℕ) → Option Held → Role → List ℕ → Type 0
-Reaches words told role name = (schema : List ℕ) × (query : List ℕ) × IsRun words schema query × ReachesFile schema query told role name
+Reaches words told role name =
+    (schema : List ℕ) × (query : List ℕ) × IsRun words schema query × ReachesFile schema query told role name

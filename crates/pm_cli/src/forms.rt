@@ -53,7 +53,8 @@ pub fn is_query(bytes: &[u8], table: &Txt) -> bool
 /// Its time is linear in the bytes.
 pub fn read_table(alloc: Global, column: &Txt, bytes: &[u8]) -> Result<Option<Rows>, AllocError>
     ensures found { IfOk result (λ found. IfSome found (IsTable bytes.now column.now)) }
-    ensures only { (rows : List (List Cell)) → IsTable bytes.now column.now rows → IfOk result (λ found. found ≡ Some rows) }
+    ensures only { (rows : List (List Cell)) → IsTable bytes.now column.now rows
+        → IfOk result (λ found. found ≡ Some rows) }
 {
     let Some(rest) = strip(bytes, column.bytes()) else {
         return Ok(None);
@@ -67,8 +68,11 @@ pub fn read_table(alloc: Global, column: &Txt, bytes: &[u8]) -> Result<Option<Ro
 /// The forms have one reading each, and a table's rows are what its schema declares.
 pub fn have_one_reading()
     ensures schema { (bytes : List ℕ) (a b : Declared) → IsSchema bytes a → IsSchema bytes b → a ≡ b }
-    ensures table { (bytes column : List ℕ) (a b : List (List Cell)) → IsTable bytes column a → IsTable bytes column b → a ≡ b }
-    ensures relation { (schema bytes column : List ℕ) (decl : Declared) (rows : List (List Cell)) → IsSchema schema decl → decl.columns ≡ int_column column ∷ [] → IsTable bytes column rows → IsRelation (record { decl = decl; rows = rows }) }
+    ensures table { (bytes column : List ℕ) (a b : List (List Cell)) → IsTable bytes column a
+        → IsTable bytes column b → a ≡ b }
+    ensures relation { (schema bytes column : List ℕ) (decl : Declared) (rows : List (List Cell)) → IsSchema schema decl
+        → decl.columns ≡ int_column column ∷ [] → IsTable bytes column rows
+        → IsRelation (record { decl = decl; rows = rows }) }
 {}
 
 /// Texts in the forms, worked by hand.
@@ -82,7 +86,8 @@ pub fn worked()
 
 #[tactic(auto, unfolding(crate::specs::Reading::schema_parts))]
 fn schema_parts(bytes: &[u8]) -> Option<(&[u8], &[u8], &[u8], &[u8])>
-    ensures { option_map (λ parts. (parts.0.now, parts.1.now, parts.2.now, parts.3.now)) result ≡ schema_parts bytes.now }
+    ensures { option_map (λ parts. (parts.0.now, parts.1.now, parts.2.now, parts.3.now)) result
+        ≡ schema_parts bytes.now }
 {
     let rest = strip(bytes, b"TABLE ")?;
     let (table, rest) = split(rest, b' ')?;
@@ -95,7 +100,8 @@ fn schema_parts(bytes: &[u8]) -> Option<(&[u8], &[u8], &[u8], &[u8])>
 }
 
 fn are_parts(table: &[u8], file: &[u8], column: &[u8], end: &[u8]) -> bool
-    ensures { IsTrue result ↔ (IsShortName table.now × IsShortName file.now × IsShortName column.now × IsEnd end.now) }
+    ensures { IsTrue result
+        ↔ (IsShortName table.now × IsShortName file.now × IsShortName column.now × IsEnd end.now) }
 {
     is_short_name(table) && is_short_name(file) && is_short_name(column) && is_end(end)
 }
@@ -136,7 +142,8 @@ fn text_of(alloc: Global, bytes: &[u8]) -> Result<Txt, AllocError>
 
 fn rows_of(alloc: Global, body: &[u8]) -> Result<Option<Rows>, AllocError>
     ensures found { IfOk result (λ found. IfSome found (λ rows. AreLines body.now rows × (length rows ≤ 2 ^ 24))) }
-    ensures only { (rows : List (List Cell)) → AreLines body.now rows → length rows ≤ 2 ^ 24 → IfOk result (λ found. found ≡ Some rows) }
+    ensures only { (rows : List (List Cell)) → AreLines body.now rows → length rows ≤ 2 ^ 24
+        → IfOk result (λ found. found ≡ Some rows) }
 {
     let mut rows = Rows::new(alloc);
     let mut rest = body;
@@ -162,7 +169,9 @@ fn row_of(alloc: Global, number: i128) -> Result<Row, AllocError>
 }
 
 fn line_of(bytes: &[u8]) -> Option<(i128, &[u8])>
-    ensures { MatchOption result ((number : ℤ) (rest : List ℕ) → ¬ (BeginsLine bytes.now number rest)) (λ line. BeginsLine bytes.now line.0 line.1.now) }
+    ensures { MatchOption result
+        ((number : ℤ) (rest : List ℕ) → ¬ (BeginsLine bytes.now number rest))
+        (λ line. BeginsLine bytes.now line.0 line.1.now) }
 {
     let (line, rest) = split(bytes, b'\n')?;
     Some((number(line)?, rest))
@@ -178,7 +187,9 @@ fn number(line: &[u8]) -> Option<i128>
 }
 
 fn natural(digits: &[u8]) -> Option<i128>
-    ensures { MatchOption result (¬ (AreDigits digits.now)) (λ number. AreDigits digits.now × (number ≡ pos (number_of digits.now))) }
+    ensures { MatchOption result
+        (¬ (AreDigits digits.now))
+        (λ number. AreDigits digits.now × (number ≡ pos (number_of digits.now))) }
 {
     if are_digits(digits) {
         Some(i128::from(value_of(digits)))

@@ -39,8 +39,11 @@ pub fn load<F: Files>(alloc: Global, words: &[Txt], files: &mut F) -> Result<Tab
     // Where the files' bytes are told, an answer is what they call for. What they call for is answered, unless
     // memory was wanted or a file could not be read.
     ensures called { IfSome (F.held files.old) (λ held. IfSome (verdict_of result) (Calls words.now held)) }
-    ensures only { IfSome (F.held files.old) (λ held. (verdict : Verdict) → Calls words.now held verdict → IfSome (verdict_of result) (λ given. given ≡ verdict)) }
-    ensures complete { IfSome (F.held files.old) (λ held. (verdict : Verdict) → Calls words.now held verdict → ¬ (Rose (F.faults files.old) (F.faults files.new)) → (verdict_of result ≡ Some verdict) ⊎ IsErrOf result refusal.NoMemory) }
+    ensures only { IfSome (F.held files.old) (λ held. (verdict : Verdict) → Calls words.now held verdict
+        → IfSome (verdict_of result) (λ given. given ≡ verdict)) }
+    ensures complete { IfSome (F.held files.old) (λ held. (verdict : Verdict) → Calls words.now held verdict
+        → ¬ (Rose (F.faults files.old) (F.faults files.new))
+        → (verdict_of result ≡ Some verdict) ⊎ IsErrOf result refusal.NoMemory) }
     ensures usage { IsErrOf result refusal.Usage ↔ IsNoRun words.now }
 
     // A schema's text declares the table.
@@ -62,7 +65,8 @@ pub fn load<F: Files>(alloc: Global, words: &[Txt], files: &mut F) -> Result<Tab
 
 /// The words and the bytes of the files call for one thing.
 pub fn calls_for_one()
-    ensures { (words : List (List ℕ)) (held : Held) (a b : Verdict) → Calls words held a → Calls words held b → a ≡ b }
+    ensures { (words : List (List ℕ)) (held : Held) (a b : Verdict) → Calls words held a → Calls words held b
+        → a ≡ b }
 {}
 
 fn names_of(words: &[Txt]) -> Option<(&Txt, &Txt)>
@@ -88,10 +92,13 @@ fn load_files<F: Files>(
     ensures faults { F.faults files.old ≤ F.faults files.new }
     ensures absences { F.absences files.old ≤ F.absences files.new }
     ensures declared { IfOk result (λ table. (text : List ℕ) × IsSchema text table.decl) }
-    ensures loaded { IfOk result (λ table. IfSome (F.held files.old) (λ held. SchemaCalls held schema.now query.now (Loaded table))) }
+    ensures loaded { IfOk result (λ table. IfSome (F.held files.old)
+        (λ held. SchemaCalls held schema.now query.now (Loaded table))) }
     ensures stops { IfErr result (MatchFile
-        (IsMissing (F.held files.old) (F.absences files.old) (F.absences files.new) (F.last files.new) (F.stand files.new) schema.now query.now)
-        (IsUnread (F.held files.old) (F.faults files.old) (F.faults files.new) (F.last files.new) (F.stand files.new) schema.now query.now)
+        (IsMissing (F.held files.old) (F.absences files.old) (F.absences files.new) (F.last files.new)
+        (F.stand files.new) schema.now query.now)
+        (IsUnread (F.held files.old) (F.faults files.old) (F.faults files.new) (F.last files.new)
+        (F.stand files.new) schema.now query.now)
         (IfSome (F.held files.old) (λ held. SchemaCalls held schema.now query.now NotBuilt))) }
 {
     let decl = load_schema(alloc, files, schema)?;
@@ -105,10 +112,13 @@ fn load_schema<F: Files>(alloc: Global, files: &mut F, name: &Txt) -> Result<Tab
     ensures faults { F.faults files.old ≤ F.faults files.new }
     ensures absences { F.absences files.old ≤ F.absences files.new }
     ensures declared { IfOk result (λ decl. (text : List ℕ) × IsSchema text decl) }
-    ensures holds { IfOk result (λ decl. IfSome (F.held files.old) (λ held. Holds held name.now text_limit IsSchema decl)) }
+    ensures holds { IfOk result (λ decl. IfSome (F.held files.old)
+        (λ held. Holds held name.now text_limit IsSchema decl)) }
     ensures stops { IfErr result (MatchFile
-        (IsAbsence (F.held files.old) (F.absences files.old) (F.absences files.new) (F.last files.new) (F.stand files.new) roles.Schema name.now)
-        (IsFault (F.faults files.old) (F.faults files.new) (F.last files.new) (F.stand files.new) roles.Schema name.now)
+        (IsAbsence (F.held files.old) (F.absences files.old) (F.absences files.new) (F.last files.new)
+        (F.stand files.new) roles.Schema name.now)
+        (IsFault (F.faults files.old) (F.faults files.new) (F.last files.new)
+        (F.stand files.new) roles.Schema name.now)
         (IfHeld (F.held files.old) name.now (λ bytes. IsUnfit bytes text_limit IsSchema))) }
 {
     let bytes = read_file(alloc, files, Role::Schema, name, TEXT_LIMIT)?;
@@ -127,10 +137,13 @@ fn load_query<F: Files>(
     ensures held { F.held files.new ≡ F.held files.old }
     ensures faults { F.faults files.old ≤ F.faults files.new }
     ensures absences { F.absences files.old ≤ F.absences files.new }
-    ensures holds { OnOk result (IfSome (F.held files.old) (λ held. Holds held name.now text_limit (IsQueryOf decl.now) tt)) }
+    ensures holds { OnOk result (IfSome (F.held files.old)
+        (λ held. Holds held name.now text_limit (IsQueryOf decl.now) tt)) }
     ensures stops { IfErr result (MatchFile
-        (IsAbsence (F.held files.old) (F.absences files.old) (F.absences files.new) (F.last files.new) (F.stand files.new) roles.Query name.now)
-        (IsFault (F.faults files.old) (F.faults files.new) (F.last files.new) (F.stand files.new) roles.Query name.now)
+        (IsAbsence (F.held files.old) (F.absences files.old) (F.absences files.new) (F.last files.new)
+        (F.stand files.new) roles.Query name.now)
+        (IsFault (F.faults files.old) (F.faults files.new) (F.last files.new)
+        (F.stand files.new) roles.Query name.now)
         (IfHeld (F.held files.old) name.now (λ bytes. IsUnfit bytes text_limit (IsQueryOf decl.now)))) }
 {
     let bytes = read_file(alloc, files, Role::Query, name, TEXT_LIMIT)?;
@@ -147,10 +160,13 @@ fn load_rows<F: Files>(alloc: Global, files: &mut F, decl: &TableDecl) -> Result
     ensures faults { F.faults files.old ≤ F.faults files.new }
     ensures absences { F.absences files.old ≤ F.absences files.new }
     ensures relation { IfOk result (λ rows. IsRelation (record { decl = decl.now; rows = rows })) }
-    ensures holds { IfOk result (λ rows. IfSome (F.held files.old) (λ held. Holds held decl.now.file table_limit (IsTableOf decl.now) rows)) }
+    ensures holds { IfOk result (λ rows. IfSome (F.held files.old)
+        (λ held. Holds held decl.now.file table_limit (IsTableOf decl.now) rows)) }
     ensures stops { IfErr result (MatchFile
-        (IsAbsence (F.held files.old) (F.absences files.old) (F.absences files.new) (F.last files.new) (F.stand files.new) (roles.Table 0) decl.now.file)
-        (IsFault (F.faults files.old) (F.faults files.new) (F.last files.new) (F.stand files.new) (roles.Table 0) decl.now.file)
+        (IsAbsence (F.held files.old) (F.absences files.old) (F.absences files.new) (F.last files.new)
+        (F.stand files.new) (roles.Table 0) decl.now.file)
+        (IsFault (F.faults files.old) (F.faults files.new) (F.last files.new)
+        (F.stand files.new) (roles.Table 0) decl.now.file)
         (IfHeld (F.held files.old) decl.now.file (λ bytes. IsUnfit bytes table_limit (IsTableOf decl.now)))) }
 {
     let bytes = read_file(alloc, files, Role::Table(0), &decl.file, TABLE_LIMIT)?;
@@ -175,8 +191,10 @@ fn read_file<F: Files>(
     ensures bytes { IfOk result (λ bytes. IfSome (F.held files.old) (λ held. held name.now ≡ Some bytes.items)) }
     ensures within { IfOk result (λ bytes. length bytes.items ≤ limit) }
     ensures stops { IfErr result (MatchFile
-        (IsAbsence (F.held files.old) (F.absences files.old) (F.absences files.new) (F.last files.new) (F.stand files.new) role name.now)
-        (IsFault (F.faults files.old) (F.faults files.new) (F.last files.new) (F.stand files.new) role name.now)
+        (IsAbsence (F.held files.old) (F.absences files.old) (F.absences files.new) (F.last files.new)
+        (F.stand files.new) role name.now)
+        (IsFault (F.faults files.old) (F.faults files.new) (F.last files.new)
+        (F.stand files.new) role name.now)
         (IfHeld (F.held files.old) name.now (λ bytes. limit < length bytes))) }
 {
     let kept = name.copy(alloc)?;
