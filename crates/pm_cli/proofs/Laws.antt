@@ -1,11 +1,11 @@
 -- What follows from the forms: one reading, and rows that fit.
-use Rattle.std.proofs.Common.{◌≡◌, ℕ, List, [], ◌∷◌, length, drop, refl, sym, ap, subst, ◌∙◌, arith}
+use Rattle.std.proofs.Common.{◌≡◌, ℕ, List, [], ◌∷◌, length, drop, refl, sym, ap, subst, ◌∙◌, arith, lit≤}
 use Rattle.std.specs.List.{AllByRecursion}
 use Rattle.std.proofs.lemmas.List.Elements.{All-from_recursion}
 use Rattle.pm_values.specs.declared.value.Value.{Value}
 use Rattle.pm_values.specs.declared.value.Value.TheVariants as value
 use Rattle.pm_values.specs.declared.table.TableDecl.{TableDecl}
-use Rattle.pm_values.specs.Table.{FitsColumns, IsRelation}
+use Rattle.pm_values.specs.Table.{FitsColumns, HasScale, IsRelation}
 use Rattle.pm_cli.specs.Forms.{IsSchema, IsTable, AreLines, int_column}
 use Rattle.pm_cli.proofs.Parts.{some_is}
 use Rattle.pm_cli.proofs.Schemas.{schema_reads, schema_once}
@@ -41,6 +41,8 @@ lines_fit bytes column (row ∷ rows) lines =
 
 pub table_fits : (bytes column : List ℕ) (decl : TableDecl) (rows : Rows) → decl.columns ≡ int_column column ∷ [] → IsTable bytes column rows → IsRelation (record { decl = decl; rows = rows })
 table_fits bytes column decl rows e t = record {
+  narrow = rw e (lit≤ tt);
+  scales = All-from_recursion HasScale decl.columns (rw e (tt, tt));
   few = t.few;
   fit = All-from_recursion (FitsColumns decl.columns) rows (rw e (lines_fit t.body column rows t.lines));
 }

@@ -6,3 +6,12 @@ pub mod Tables
 pub mod Laws
 pub mod Verdicts
 pub mod Loading
+pub mod BoundLists
+pub mod PipeLists
+pub mod Drops
+pub mod Headed
+pub mod Counted
+pub mod Steps
+pub mod Declared
+pub mod UnderPlan
+pub mod RootRows

@@ -1,9 +1,13 @@
-//! The command-line program: it reads a schema, a query and the table that the query selects from.
+//! The program `progress`: it runs one SELECT over CSV files and shows, while it runs, how much of the work is done.
 #![tactic(auto)]
 
+pub mod bounds;
+pub mod estim;
+pub mod exec;
 pub mod forms;
 pub mod load;
 pub mod refusal;
+pub mod run;
 pub mod status;
 
 fn main() {}

@@ -19,8 +19,6 @@ mod write;
 
 pub use fault::IoFault;
 pub use files::Files;
-pub use log::ReadLog;
-pub use mem_file::MemFile;
 pub use mem_files::MemFiles;
 pub use mem_sink::MemSink;
 pub use os_files::OsFiles;
@@ -30,3 +28,6 @@ pub use sink::Sink;
 pub use stand::Stand;
 pub use sure_files::SureFiles;
 pub use write::{WriteFault, write_whole};
+
+#[cfg(test)]
+mod tests;

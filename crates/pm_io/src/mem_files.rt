@@ -12,6 +12,7 @@ use std::marker::Model;
 /// Files in memory, which fail where they are told to. They tell all.
 #[derive(Debug, Drop)]
 pub struct MemFiles {
+    alloc: Global,
     /// The newest first, which hides older files of its name.
     files: Vec<MemFile>,
     fails: Vec<u64>,
@@ -51,6 +52,7 @@ impl MemFiles {
         ensures { result ≡ record { files = []; fails = []; most = 2 ^ 64 - 1; calls = 0; left = []; log = fresh } }
     {
         MemFiles {
+            alloc,
             files: Vec::new(alloc),
             fails: Vec::new(alloc),
             most: usize::MAX,
@@ -62,12 +64,12 @@ impl MemFiles {
     }
 
     /// Gives the file of this name these bytes from now on. A file that was begun is still read as it was.
-    pub fn put(&mut self, alloc: Global, name: &Txt, bytes: &[u8]) -> Result<(), AllocError>
+    pub fn put(&mut self, name: &Txt, bytes: &[u8]) -> Result<(), AllocError>
         ensures ok { OnOk result (self.new ≡ record self.old { files = record { name = name.now; bytes = bytes.now } ∷ self.old.files }) }
         ensures err { OnErr result (self.new ≡ self.old) }
     {
-        let name = name.copy(alloc)?;
-        let bytes = Bytes::from_slice(alloc, bytes)?;
+        let name = name.copy(self.alloc)?;
+        let bytes = Bytes::from_slice(self.alloc, bytes)?;
         self.files.insert(0, MemFile { name, bytes })?;
         if let Some(place) = self.begun {
             self.begun = Some(place + 1);

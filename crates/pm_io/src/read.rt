@@ -2,7 +2,7 @@ ghost use Rattle.std.specs.Prelude.{◌≡◌, ◌≢◌, ℕ, ◌+◌, ◌^◌,
 ghost use Rattle.pm_io.specs.declared.stand.Stand.TheVariants as stand;
 ghost use Rattle.pm_io.specs.declared.read.ReadOut.TheVariants as answer;
 ghost use Rattle.pm_io.specs.Counts.{Rose};
-ghost use Rattle.pm_io.specs.Reading.{IsCause};
+ghost use Rattle.pm_io.specs.Reading.{IsCause, stand_left};
 
 use crate::fault::IoFault;
 use crate::files::Files;
@@ -53,6 +53,7 @@ pub fn read_whole<F: Files>(
     requires { limit ≤ 2 ^ 32 }
     ensures held { F.held files.new ≡ F.held files.old }
     ensures last { F.last files.new ≡ name }
+    ensures stand { F.stand files.new ≡ stand_left result }
     ensures faults { F.faults files.old ≤ F.faults files.new }
     ensures absences { F.absences files.old ≤ F.absences files.new }
 
@@ -61,13 +62,10 @@ pub fn read_whole<F: Files>(
     ensures at_end { OnOk result (IfSome (F.rest files.new) (λ left. left ≡ [])) }
     ensures length { IfOk result (λ bytes. F.taken files.new ≡ vec_len bytes) }
     ensures within { IfOk result (λ bytes. vec_len bytes ≤ limit) }
-    ensures open { OnOk result (F.stand files.new ≡ stand.Open) }
 
     // when each other answer comes
     ensures absent { result ≡ Err answer.Absent → Rose (F.absences files.old) (F.absences files.new) }
-    ensures absent_stands { result ≡ Err answer.Absent → F.stand files.new ≡ stand.Absent }
     ensures failed { result ≡ Err answer.Failed → Rose (F.faults files.old) (F.faults files.new) }
-    ensures failed_stands { result ≡ Err answer.Failed → F.stand files.new ≡ stand.Broken }
     ensures too_long { result ≡ Err answer.TooLong → F.taken files.new ≡ limit + 1 }
     ensures only_too_long { F.taken files.new ≡ limit + 1 → (result ≡ Err answer.TooLong) ⊎ (result ≡ Err answer.Memory) }
     ensures cause { IfErr result (λ out. IfSome (F.held files.old) (λ held. IsCause (held name) limit out)) }
@@ -82,9 +80,11 @@ pub fn read_whole<F: Files>(
 /// What is left of the file that was begun, of which nothing was read.
 fn read_on<F: Files>(alloc: Global, files: &mut F, limit: u64) -> Result<Vec<u8>, ReadOut>
     requires limit { limit ≤ 2 ^ 32 }
-    requires begun { F.taken files.old ≡ 0 }
+    requires open { F.stand files.old ≡ stand.Open }
+    requires none_read { F.taken files.old ≡ 0 }
     ensures held { F.held files.new ≡ F.held files.old }
     ensures last { F.last files.new ≡ F.last files.old }
+    ensures stand { F.stand files.new ≡ stand_left result }
     ensures faults { F.faults files.old ≤ F.faults files.new }
     ensures absences { F.absences files.old ≤ F.absences files.new }
 
@@ -92,11 +92,9 @@ fn read_on<F: Files>(alloc: Global, files: &mut F, limit: u64) -> Result<Vec<u8>
     ensures at_end { OnOk result (IfSome (F.rest files.new) (λ left. left ≡ [])) }
     ensures length { IfOk result (λ bytes. F.taken files.new ≡ vec_len bytes) }
     ensures within { IfOk result (λ bytes. vec_len bytes ≤ limit) }
-    ensures open { OnOk result (F.stand files.new ≡ F.stand files.old) }
 
     ensures present { result ≢ Err answer.Absent }
     ensures failed { result ≡ Err answer.Failed → Rose (F.faults files.old) (F.faults files.new) }
-    ensures failed_stands { result ≡ Err answer.Failed → F.stand files.new ≡ stand.Broken }
     ensures too_long { result ≡ Err answer.TooLong → F.taken files.new ≡ limit + 1 }
     ensures only_too_long { F.taken files.new ≡ limit + 1 → (result ≡ Err answer.TooLong) ⊎ (result ≡ Err answer.Memory) }
     ensures longer { result ≡ Err answer.TooLong → IfSome (F.rest files.old) (λ left. limit < length left) }

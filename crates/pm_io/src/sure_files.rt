@@ -37,11 +37,11 @@ impl SureFiles {
     }
 
     /// Gives the file of this name these bytes from now on. A file that was begun is still read as it was.
-    pub fn put(&mut self, alloc: Global, name: &Txt, bytes: &[u8]) -> Result<(), AllocError>
+    pub fn put(&mut self, name: &Txt, bytes: &[u8]) -> Result<(), AllocError>
         ensures ok { OnOk result (self.new ≡ record self.old { files = record { name = name.now; bytes = bytes.now } ∷ self.old.files }) }
         ensures err { OnErr result (self.new ≡ self.old) }
     {
-        self.files.put(alloc, name, bytes)
+        self.files.put(name, bytes)
     }
 }
 

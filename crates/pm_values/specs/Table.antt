@@ -33,7 +33,18 @@ FitsColumns (column ∷ columns) (v ∷ values) = FitsColumn column v × FitsCol
 FitsColumns [] (v ∷ values) = ⊥
 FitsColumns (column ∷ columns) [] = ⊥
 
+-- a fixed-point number has from 1 to 6 decimals
+abbrev pub IsScale : Kind → Type 0
+IsScale kind.Int = Unit {0}
+IsScale (kind.Num scale) = (1 ≤ scale) × (scale ≤ 6)
+IsScale kind.Text = Unit {0}
+
+abbrev pub HasScale : ColumnDecl → Type 0
+HasScale column = IsScale column.kind
+
 -- the rows are what the declaration says
 pub record IsRelation (table : Relation) : Type 0 where
+  pub narrow : length table.decl.columns ≤ 64
+  pub scales : All HasScale table.decl.columns
   pub few : length table.rows ≤ 2 ^ 24
   pub fit : All (FitsColumns table.decl.columns) table.rows

@@ -6,12 +6,14 @@
 
 pub mod gate;
 pub mod items;
+pub mod print;
 pub mod table;
 pub mod text;
 pub mod value;
 
 pub use gate::{Gate, OpenGate};
 pub use items::{Bytes, Columns, Items, Names};
+pub use print::value_text;
 pub use table::{ColumnDecl, ColumnDecls, Db, Table, TableDecl, TableDecls};
 pub use text::Txt;
 pub use value::{Kind, Kinds, Row, Rows, Value};

@@ -1,0 +1,83 @@
+-- what a node tells of the tree that it heads
+use Rattle.std.proofs.Common.{◌≡◌, ℕ, ◌+◌, ◌-◌, ◌*◌, ◌<◌, ◌≤◌, ◌^◌, List, [], ◌∷◌, length, refl, ap, sym, subst, ◌∙◌, arith}
+use Rattle.std.specs.Prelude.{Some, slice_get}
+use Rattle.std.proofs.lemmas.List.{length-map}
+use Rattle.pm_plan.specs.declared.plan.Label.{Label}
+use Rattle.pm_plan.specs.declared.plan.Plan.{Plan}
+use Rattle.pm_plan.specs.declared.plan.Node.{Node}
+use Rattle.pm_plan.specs.declared.plan.Node.TheVariants as node
+use Rattle.pm_plan.specs.Rows.{Db, table_rows, pick}
+use Rattle.pm_plan.specs.Tree.{Tree, Scan, Project, Heads, IsNumbered, tree_of}
+use Rattle.pm_plan.specs.Events.{Event, events, after, handed}
+use Rattle.pm_plan.specs.Fits.{Fits, below, tree_over}
+use Rattle.pm_plan.proofs.EventLaws.{length-events}
+use Rattle.pm_cli.specs.Left.{InPlan, IsScan, table_of, columns_of}
+use Rattle.pm_cli.specs.Fresh.{IsFor, HeadsTree, AreAll}
+
+module _ (nodes : List Node) (n : ℕ) where
+  scan_of : (t : Tree) (table : ℕ) (label : Label) → slice_get nodes (n - 1) ≡ Some (node.Scan table label) → Heads nodes t n
+      → t ≡ Scan table label
+  scan_of (Scan table' label') table label e s =
+      let tables : table' ≡ table = cc in
+      let labels : label' ≡ label = cc in
+      ap (λ x. Scan x label') tables ∙ ap (Scan table) labels
+  scan_of (Project child columns) table label e s = let z = s.0 in absurd cc
+
+  project_of : (t : Tree) (c : ℕ) (cs : List ℕ) → slice_get nodes (n - 1) ≡ Some (node.Project c cs) → Heads nodes t n
+      → (child : Tree) × (t ≡ Project child cs) × Heads nodes child (n + 1) × (c ≡ n + 1)
+  project_of (Scan table label) c cs e s = absurd cc
+  project_of (Project child columns) c cs e s = let z = s.0 in (child, ap (Project child) cc, s.1, cc)
+
+module _ (db : Db) (nodes : List Node) (n : ℕ) where
+  pub scan_table : (table : ℕ) (label : Label) → slice_get nodes (n - 1) ≡ Some (node.Scan table label) → HeadsTree db nodes n
+      → IsScan (slice_get nodes (n - 1)) db
+  scan_table table label e w =
+      let f : table < length db = subst (λ x. IsFor db nodes x n) (scan_of nodes n w.0 table label e w.1) w.2 in
+      rw e f
+
+  pub scan_all : (table : ℕ) (label : Label) → slice_get nodes (n - 1) ≡ Some (node.Scan table label)
+      → AreAll db nodes n (handed n (table_rows db (table_of (slice_get nodes (n - 1)))))
+  scan_all table label e = record { each = λ t s. rw (scan_of nodes n t table label e s, e) refl }
+
+  pub project_child : (c : ℕ) (cs : List ℕ) → slice_get nodes (n - 1) ≡ Some (node.Project c cs) → HeadsTree db nodes n
+      → (c ≡ n + 1) × InPlan nodes (n + 1) × HeadsTree db nodes (n + 1)
+  project_child c cs e w =
+      let s = project_of nodes n w.0 c cs e w.1 in
+      let f = subst (λ x. IsFor db nodes x n) s.1 w.2 in
+      (s.3, f.0, (s.0, s.2, f.1))
+
+  pub project_all : (es : List Event) (c : ℕ) (cs : List ℕ) → slice_get nodes (n - 1) ≡ Some (node.Project c cs)
+      → AreAll db nodes (n + 1) es
+      → AreAll db nodes n (after (n + 1) (λ row. handed n (pick (columns_of (slice_get nodes (n - 1))) row ∷ [])) es)
+  project_all es c cs e deep = record { each = each }
+    where
+      each : (t : Tree) → Heads nodes t n
+          → after (n + 1) (λ row. handed n (pick (columns_of (slice_get nodes (n - 1))) row ∷ [])) es ≡ events db t n
+      each (Scan table label) s = absurd cc
+      each (Project child columns) s = rw (s.0, deep.each child s.1) refl
+
+-- a plan that fits heads its tree, over the one table, and calls for two events a row
+pub record Headed (plan : Plan) (db : Db) : Type 0 where
+  pub in_plan : InPlan plan.nodes 1
+  pub numbered : IsNumbered plan.nodes
+  pub heads : Heads plan.nodes (tree_of plan.nodes) 1
+  pub tables : IsFor db plan.nodes (tree_of plan.nodes) 1
+  pub one : 0 < length db
+  pub work : length (events db (tree_of plan.nodes) 1) ≡ 2 * length (table_rows db 0)
+
+pub headed : (plan : Plan) (db : Db) → Fits plan db → Headed plan db
+headed plan [] fits = absurd fits
+headed plan (table ∷ []) fits =
+    let child : (1 ≤ 2) × (2 ≤ 2) × (2 < 2 ^ 32) = (omega arith, omega arith, omega arith) in
+    let tree : Tree = tree_over table.decl in
+    let columns : List ℕ = below (length table.decl.columns) in
+    subst (λ p. Headed p (table ∷ [])) (sym fits)
+    (record {
+      in_plan = (omega arith, omega arith, omega arith);
+      numbered = refl;
+      heads = (refl, refl);
+      tables = (child, omega arith);
+      one = omega arith;
+      work = omega (arith, length-events (table ∷ []) tree 1, length-map table.rows (pick columns));
+    })
+headed plan (table ∷ other ∷ tables) fits = absurd fits

@@ -1,0 +1,13 @@
+-- the sums of a moment fit 128 bits
+use Rattle.std.specs.Prelude.{ℕ, ◌<◌, ◌^◌, List}
+use Rattle.pm_plan.specs.declared.gauge.Gauge.{Gauge}
+use Rattle.pm_plan.specs.Tree.{Tree}
+use Rattle.pm_cli.specs.Bounds.{bounds_of, work_of, lo_of, hi_of}
+use Rattle.pm_cli.specs.Pipelines.{pipes_of, driven}
+
+pub record SumsFit (tree : Tree) (gauges : List Gauge) : Type 0 where
+  pub work : work_of gauges < 2 ^ 128
+  pub lo : lo_of (bounds_of tree 1 gauges) < 2 ^ 128
+  pub hi : hi_of (bounds_of tree 1 gauges) < 2 ^ 128
+  pub handed : driven (λ gauge. gauge.handed) (pipes_of 1 tree) gauges < 2 ^ 128
+  pub within : driven (λ bound. bound.hi) (pipes_of 1 tree) (bounds_of tree 1 gauges) < 2 ^ 128

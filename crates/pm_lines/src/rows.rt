@@ -1,0 +1,53 @@
+ghost use Rattle.std.specs.Prelude.{◌≡◌, ◌≤◌, ◌++◌, map, Err, IfOk, OnOk, OnErr};
+ghost use Rattle.csv.specs.Writing.{default_writer, row_text};
+ghost use Rattle.pm_io.specs.Counts.{Rose};
+ghost use Rattle.pm_io.specs.Sink.{gained, GainsPart};
+ghost use Rattle.pm_lines.specs.Rows.{head_line, row_line};
+
+use crate::fault::LineBad;
+use csv::WriterBuilder;
+use pm_io::{Sink, write_whole};
+use pm_values::Txt;
+use std::alloc::{AllocError, Global};
+
+/// Writes the header line of these column names.
+pub fn put_head<S: Sink>(alloc: Global, sink: &mut S, names: &[Txt]) -> Result<(), LineBad>
+    ensures whole { OnOk result (S.written sink.new ≡ gained (S.written sink.old) (head_line names.now)) }
+    ensures part { OnErr result (GainsPart (S.written sink.old) (S.written sink.new) (head_line names.now)) }
+    ensures failed { result ≡ Err LineBad.Write → Rose (S.faults sink.old) (S.faults sink.new) }
+    ensures faults { S.faults sink.old ≤ S.faults sink.new }
+{
+    let line = with_record(Vec::from_slice(alloc, b"H ")?, alloc, names)?;
+    write_whole(sink, line.as_slice())?;
+    Ok(())
+}
+
+/// Writes the row line of these fields.
+pub fn put_row<S: Sink>(alloc: Global, sink: &mut S, fields: &[Txt]) -> Result<(), LineBad>
+    ensures whole { OnOk result (S.written sink.new ≡ gained (S.written sink.old) (row_line fields.now)) }
+    ensures part { OnErr result (GainsPart (S.written sink.old) (S.written sink.new) (row_line fields.now)) }
+    ensures failed { result ≡ Err LineBad.Write → Rose (S.faults sink.old) (S.faults sink.new) }
+    ensures faults { S.faults sink.old ≤ S.faults sink.new }
+{
+    let line = with_record(Vec::from_slice(alloc, b"R ")?, alloc, fields)?;
+    write_whole(sink, line.as_slice())?;
+    Ok(())
+}
+
+/// These bytes, and the fields as a CSV record behind them.
+fn with_record(before: Vec<u8>, alloc: Global, fields: &[Txt]) -> Result<Vec<u8>, AllocError>
+    ensures { IfOk result (λ line. line.items ≡ before.items ++ row_text default_writer fields.now) }
+{
+    let mut cells = Vec::with_capacity(alloc, fields.len())?;
+    for field in fields {
+        cells.push(field.bytes())?;
+    }
+    let mut writer = WriterBuilder::new().from_writer(before);
+    writer
+        .write_fields(cells.as_slice())
+        .map_err(|_| AllocError)?;
+    match writer.into_inner() {
+        Ok(line) => Ok(line),
+        Err(_) => Err(AllocError),
+    }
+}

@@ -1,0 +1,3 @@
+pub mod EventLists
+pub mod EventLaws
+pub mod Widths
