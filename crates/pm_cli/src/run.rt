@@ -38,12 +38,7 @@ fn shown(plan: &Plan, gauges: &[Gauge], pipes: &Pipes, bounds: &mut [Bound]) -> 
 }
 
 /// Writes the row line of the row that the root has just handed out.
-fn write_row<S: Sink>(
-    alloc: Global,
-    sink: &mut S,
-    exec: &Exec<'_>,
-    kinds: &Kinds,
-) -> Result<(), LineBad>
+fn write_row<S: Sink>(alloc: Global, sink: &mut S, exec: &Exec<'_>, kinds: &Kinds) -> Result<(), LineBad>
     requires at_root { HasRootRow exec.now }
     requires kinds { kinds.now ≡ exec.now.plan.kinds }
     ensures whole { OnOk result (S.written sink.new ≡ gained (S.written sink.old) (row_line (row_texts kinds.now (last_row exec.now)))) }
