@@ -1,3 +1,11 @@
+pub mod Parts
+pub mod Schemas
+pub mod Queries
+pub mod Numbers
+pub mod Tables
+pub mod Laws
+pub mod Verdicts
+pub mod Loading
 pub mod BoundLists
 pub mod PipeLists
 pub mod Drops
@@ -10,3 +18,4 @@ pub mod RootRows
 pub mod Turns
 pub mod Sides
 pub mod Certain
+pub mod TopCall

@@ -2,10 +2,18 @@
 #![tactic(auto)]
 
 pub mod bounds;
-pub mod estim;
 pub mod build;
+pub mod certified;
+pub mod estim;
 pub mod exec;
-pub mod laws;
+pub mod forms;
+pub mod load;
+pub mod refusal;
 pub mod run;
+pub mod status;
+pub mod top;
+
+pub use status::{Role, Status};
+pub use top::monitor_main;
 
 fn main() {}

@@ -27,8 +27,8 @@ loop-run-preserved g c =
           ∙ ap (λ m. gained m lines) c.loop-run.invariant.lines
           ∙ gained-gained (written a.sink.now) so_far lines
           ∙ ap (gained (written a.sink.now))
-              (append_assoc (head_text a.plan.now) (lines_until a.plan.now a.db.now a.every old.taken) lines
-              ∙ ap (λ t. head_text a.plan.now ++ t) (lines-next a.plan.now a.db.now a.every old new c.loop-run.invariant.going next));
+          (append_assoc (head_text a.plan.now) (lines_until a.plan.now a.db.now a.every old.taken) lines
+          ∙ ap (λ t. head_text a.plan.now ++ t) (lines-next a.plan.now a.db.now a.every old new c.loop-run.invariant.going next));
       faults = omega (arith, c.loop-run.invariant.faults, c.turn.ensures.faults);
     }
 

@@ -61,7 +61,7 @@ returns-in_err-write_event-in-Ok-Row-clause-part g c =
     ∙ sym (turn-goes (run_of a) (room (run_of a) e is c.in-Ok-Row.ensures.within))
     ∙ ap turn_text c.self.view_is in
     on_err c.from_residual-in_err-write_event-in-Ok-Row.result
-        (subst (GainsPart old new) text (part_first old new row progress c.in_err-write_event-in-Ok-Row.ensures.part))
+    (subst (GainsPart old new) text (part_first old new row progress c.in_err-write_event-in-Ok-Row.ensures.part))
 
 pub returns-in_err-write_progress-in-Ok-Row-clause-part : goal.returns-in_err-write_progress-in-Ok-Row-clause-part
 returns-in_err-write_progress-in-Ok-Row-clause-part g c =
@@ -79,8 +79,8 @@ returns-in_err-write_progress-in-Ok-Row-clause-part g c =
     ∙ sym (turn-goes (run_of a) (room (run_of a) e is c.in-Ok-Row.ensures.within))
     ∙ ap turn_text c.self.view_is in
     on_err c.from_residual-in_err-write_progress-in-Ok-Row.result
-        (subst (GainsPart old new) text
-            (part_later old mid new row progress c.in_ok-write_event-in-Ok-Row.ensures.whole c.in_err-write_progress-in-Ok-Row.ensures.part))
+    (subst (GainsPart old new) text
+    (part_later old mid new row progress c.in_ok-write_event-in-Ok-Row.ensures.whole c.in_err-write_progress-in-Ok-Row.ensures.part))
 
 pub returns-in_ok-put_end-in-Ok-End-clause-ended : goal.returns-in_ok-put_end-in-Ok-End-clause-ended
 returns-in_ok-put_end-in-Ok-End-clause-ended g c = λ _.

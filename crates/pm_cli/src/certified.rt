@@ -9,5 +9,4 @@ ghost use Rattle.pm_cli.specs.Certified.{AreCertified};
 /// The numbers of every run are certified.
 pub fn numbers_are_certified()
     ensures { (plan : Plan) (db : Db) → Fits plan db → All IsRelation db → AreCertified plan db }
-{
-}
+{}
