@@ -12,7 +12,7 @@ use Rattle.pm_plan.specs.Events.{Event, events, after, handed}
 use Rattle.pm_plan.specs.Fits.{Fits, below, tree_over}
 use Rattle.pm_plan.proofs.EventLaws.{length-events}
 use Rattle.pm_cli.specs.Left.{InPlan, IsScan, table_of, columns_of}
-use Rattle.pm_cli.specs.Fresh.{IsFor, HeadsTree, AreAll}
+use Rattle.pm_cli.specs.Fresh.{HasTables, HeadsTree, AreAll}
 
 module _ (nodes : List Node) (n : ℕ) where
   scan_of : (t : Tree) (table : ℕ) (label : Label) → slice_get nodes (n - 1) ≡ Some (node.Scan table label) → Heads nodes t n
@@ -32,7 +32,7 @@ module _ (db : Db) (nodes : List Node) (n : ℕ) where
   pub scan_table : (table : ℕ) (label : Label) → slice_get nodes (n - 1) ≡ Some (node.Scan table label) → HeadsTree db nodes n
       → IsScan (slice_get nodes (n - 1)) db
   scan_table table label e w =
-      let f : table < length db = subst (λ x. IsFor db nodes x n) (scan_of nodes n w.0 table label e w.1) w.2 in
+      let f : table < length db = subst (λ x. HasTables db nodes x n) (scan_of nodes n w.0 table label e w.1) w.2 in
       rw e f
 
   pub scan_all : (table : ℕ) (label : Label) → slice_get nodes (n - 1) ≡ Some (node.Scan table label)
@@ -43,7 +43,7 @@ module _ (db : Db) (nodes : List Node) (n : ℕ) where
       → (c ≡ n + 1) × InPlan nodes (n + 1) × HeadsTree db nodes (n + 1)
   project_child c cs e w =
       let s = project_of nodes n w.0 c cs e w.1 in
-      let f = subst (λ x. IsFor db nodes x n) s.1 w.2 in
+      let f = subst (λ x. HasTables db nodes x n) s.1 w.2 in
       (s.3, f.0, (s.0, s.2, f.1))
 
   pub project_all : (es : List Event) (c : ℕ) (cs : List ℕ) → slice_get nodes (n - 1) ≡ Some (node.Project c cs)
@@ -61,7 +61,7 @@ pub record Headed (plan : Plan) (db : Db) : Type 0 where
   pub in_plan : InPlan plan.nodes 1
   pub numbered : IsNumbered plan.nodes
   pub heads : Heads plan.nodes (tree_of plan.nodes) 1
-  pub tables : IsFor db plan.nodes (tree_of plan.nodes) 1
+  pub tables : HasTables db plan.nodes (tree_of plan.nodes) 1
   pub one : 0 < length db
   pub work : length (events db (tree_of plan.nodes) 1) ≡ 2 * length (table_rows db 0)
 

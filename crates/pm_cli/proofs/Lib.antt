@@ -3,7 +3,7 @@ pub mod Schemas
 pub mod Queries
 pub mod Numbers
 pub mod Tables
-pub mod Laws
+pub mod Readings
 pub mod Verdicts
 pub mod Loading
 pub mod BoundLists
@@ -15,3 +15,6 @@ pub mod Steps
 pub mod Declared
 pub mod UnderPlan
 pub mod RootRows
+pub mod Turns
+pub mod Sides
+pub mod Certain

@@ -79,7 +79,7 @@ row-over table (suc k) declared is =
     let rows : AllByRecursion (FitsColumns columns) table.rows = recursion_from_All (FitsColumns columns) table.rows declared.fit in
     let whole : rows_at 1 es ≡ table.rows = rows_at-events (table ∷ []) (tree_over table.decl) 1 ∙ pick-all columns table.rows rows in
     fits-kinds columns (row_in (slice_get es k)) (recursion_from_All HasScale columns declared.scales)
-        (row-among (FitsColumns columns) 1 es k (subst (AllByRecursion (FitsColumns columns)) (sym whole) rows) is)
+    (row-among (FitsColumns columns) 1 es k (subst (AllByRecursion (FitsColumns columns)) (sym whole) rows) is)
 
 row-under : (plan : Plan) (db : Db) (taken : ℕ) → Fits plan db → All IsRelation db
     → IsOf 1 (last_event (events db (tree_of plan.nodes) 1) taken)
@@ -88,7 +88,7 @@ row-under plan [] taken fits declared is = absurd fits
 row-under plan (table ∷ []) taken fits declared is =
     let one : IsRelation table = (recursion_from_All IsRelation (table ∷ []) declared).0 in
     let P : Plan → Type 0 = λ p. IsOf 1 (last_event (events (table ∷ []) (tree_of p.nodes) 1) taken)
-        → FitsKinds p.kinds (row_in (last_event (events (table ∷ []) (tree_of p.nodes) 1) taken)) in
+    → FitsKinds p.kinds (row_in (last_event (events (table ∷ []) (tree_of p.nodes) 1) taken)) in
     subst P (sym fits) (row-over table taken one) is
 row-under plan (table ∷ other ∷ tables) taken fits declared is = absurd fits
 

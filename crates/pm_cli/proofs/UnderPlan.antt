@@ -63,7 +63,7 @@ at_moment plan [] t fits declared within = absurd fits
 at_moment plan (table ∷ []) t fits declared within =
     let one : IsRelation table = (recursion_from_All IsRelation (table ∷ []) declared).0 in
     subst (λ p. IsMoment p (table ∷ []) t) (sym fits)
-        (over_table table t one (subst (λ p. t ≤ whole_work (table ∷ []) (tree_of p.nodes)) fits within))
+    (over_table table t one (subst (λ p. t ≤ whole_work (table ∷ []) (tree_of p.nodes)) fits within))
 at_moment plan (table ∷ other ∷ tables) t fits declared within = absurd fits
 
 pub kinds-few : (plan : Plan) (db : Db) → Fits plan db → All IsRelation db → length plan.kinds ≤ 64

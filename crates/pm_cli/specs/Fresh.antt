@@ -7,13 +7,13 @@ use Rattle.pm_plan.specs.Events.{Event, events}
 use Rattle.pm_cli.specs.Left.{InPlan}
 
 -- each table is in the database, and each node in the plan
-abbrev pub IsFor : Db → List Node → Tree → ℕ → Type 0
-IsFor db nodes (Scan table label) n = table < length db
-IsFor db nodes (Project child columns) n = InPlan nodes (n + 1) × IsFor db nodes child (n + 1)
+abbrev pub HasTables : Db → List Node → Tree → ℕ → Type 0
+HasTables db nodes (Scan table label) n = table < length db
+HasTables db nodes (Project child columns) n = InPlan nodes (n + 1) × HasTables db nodes child (n + 1)
 
 -- node n heads a tree for this database
 abbrev pub HeadsTree : Db → List Node → ℕ → Type 0
-HeadsTree db nodes n = (t : Tree) × Heads nodes t n × IsFor db nodes t n
+HeadsTree db nodes n = (t : Tree) × Heads nodes t n × HasTables db nodes t n
 
 -- these are all events of the tree that node n heads
 pub record AreAll (db : Db) (nodes : List Node) (n : ℕ) (es : List Event) : Type 0 where

@@ -1,4 +1,4 @@
--- what an iterator still has to hand out, and the row that it handed out last
+-- what an iterator still has to hand out, and the row that it has at hand
 use Rattle.std.specs.Prelude.{◌≡◌, ℕ, zero, suc, ◌+◌, ◌-◌, ◌<◌, ◌≤◌, ◌^◌, if◌then◌else◌, List, [], ◌∷◌, ◌++◌, length, drop, slice_get, Option, Some, unwrap_or}
 use Rattle.pm_plan.specs.declared.plan.Node.{Node}
 use Rattle.pm_plan.specs.declared.plan.Node.TheVariants as node
@@ -43,13 +43,13 @@ abbrev pub last_of : ℕ → List Row → Row
 last_of zero rows = []
 last_of (suc k) rows = unwrap_or (slice_get rows k) []
 
--- the row that node n handed out last, or is to hand out next where it is ready
+-- the row that node n makes of what its child has at hand. After an event of n itself it is the row of that event
 abbrev pub row_at_hand : Db → List Node → ℕ → Iter → Row
 row_at_hand db nodes n (Scan next) = last_of next (table_rows db (table_of (slice_get nodes (n - 1))))
 row_at_hand db nodes n (Project' p child ready) =
     pick (columns_of (slice_get nodes (n - 1))) (row_at_hand db nodes (n + 1) child)
 
--- first the row that is ready, then what the events of the child call for
+-- first the row that is ready, then the child's events, and right after each of its rows one of n's own
 abbrev pub events_left : Db → List Node → ℕ → Iter → List Event
 events_left db nodes n (Scan next) = handed n (drop next (table_rows db (table_of (slice_get nodes (n - 1)))))
 events_left db nodes n (Project' p child ready) =

@@ -10,9 +10,13 @@ pub mod Pipelines
 pub mod Estimates
 pub mod Left
 pub mod Fresh
+pub mod NumbersRun
 pub mod Gauges
 pub mod Ran
 pub mod Ticks
 pub mod Running
 pub mod Sums
 pub mod Text
+pub mod RunState
+pub mod IsRun
+pub mod Certified

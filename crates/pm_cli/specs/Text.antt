@@ -1,5 +1,5 @@
 -- the text of a run: plan and header lines, then for each event its row and progress lines, and the end line
-use Rattle.std.specs.Prelude.{ℕ, zero, suc, ◌+◌, ◌-◌, ◌%◌, ◌==◌, ◌||◌, Bool, true, false, if◌then◌else◌, List, [], ◌∷◌, ◌++◌, length, map, slice_get, Option, None, Some}
+use Rattle.std.specs.Prelude.{ℕ, zero, suc, ◌+◌, ◌%◌, ◌==◌, ◌||◌, Bool, true, false, if◌then◌else◌, List, [], ◌∷◌, ◌++◌, length, map, Option, None, Some}
 use Rattle.std.specs.List.{zip}
 use Rattle.pm_values.specs.declared.value.Value.{Value}
 use Rattle.pm_values.specs.declared.value.Kind.{Kind}
@@ -12,6 +12,7 @@ use Rattle.pm_plan.specs.Events.{Event, events}
 use Rattle.pm_lines.specs.PlanLines.{plan_lines}
 use Rattle.pm_lines.specs.Rows.{head_line, row_line}
 use Rattle.pm_lines.specs.Progress.{progress_line, end_line}
+use Rattle.pm_cli.specs.Ticks.{last_event}
 use Rattle.pm_cli.specs.Estimates.{shown_at}
 
 -- the texts of a row's values, by the kinds of its columns
@@ -28,12 +29,16 @@ abbrev pub is_due : Option ℕ → ℕ → ℕ → Bool
 is_due None whole t = false
 is_due (Some every) whole t = (t % every == 0) || (t == whole)
 
+-- the progress line of event t, where it has one
+abbrev pub progress_part : Plan → Db → Option ℕ → ℕ → List ℕ
+progress_part plan db every t =
+    let tree = tree_of plan.nodes in
+    (if is_due every (whole_work db tree) t then progress_line (shown_at db tree t) else [])
+
 -- the lines of event t, from 1
 abbrev pub event_lines : Plan → Db → Option ℕ → ℕ → List ℕ
 event_lines plan db every t =
-    let tree = tree_of plan.nodes in
-    row_part plan.kinds (slice_get (events db tree 1) (t - 1))
-    ++ (if is_due every (whole_work db tree) t then progress_line (shown_at db tree t) else [])
+    row_part plan.kinds (last_event (events db (tree_of plan.nodes) 1) t) ++ progress_part plan db every t
 
 -- the lines of the first events, one event after another
 abbrev pub lines_until : Plan → Db → Option ℕ → ℕ → List ℕ

@@ -50,3 +50,8 @@ HasRootRow ran = IsOf 1 (last_event (events_of ran) ran.taken)
 -- the row that the last event handed out
 abbrev pub last_row : Ran → Row
 last_row ran = row_in (last_event (events_of ran) ran.taken)
+
+-- the event that was taken last is of the node that the answer names
+abbrev pub IsLast : Tick → Ran → Type 0
+IsLast (tick.Row n) ran = IsOf n (last_event (events_of ran) ran.taken)
+IsLast tick.End ran = Unit {0}

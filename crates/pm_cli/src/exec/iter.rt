@@ -68,7 +68,7 @@ impl Iter {
         }
     }
 
-    /// One event of the node and what is below it.
+    /// Takes one event of node `n` and what is below it. A projection hands out a row right after its child does.
     pub fn step(&mut self, plan: &Plan, db: &Db, n: u32) -> Tick
         requires in_plan { InPlan plan.now.nodes n }
         requires iter { IsIterOf plan.now.nodes db.now n self.old }
@@ -100,7 +100,7 @@ impl Iter {
         }
     }
 
-    /// A column of the row that this node handed out last, and `null` past the end.
+    /// A column of the row that this node has at hand, and `null` past the end.
     pub fn cell<'d>(
         &self,
         plan: &Plan,

@@ -14,7 +14,7 @@ value_text-requires c =
     let fits : FitsKinds c.args.kinds.now row =
     subst (λ ks. FitsKinds ks row) (sym c.requires.kinds) (root-fits c.args.exec.now w.fits w.declared c.requires.at_root) in
     subst (HasText c.at-kind.result.now) (sym c.root_cell.ensures)
-        (column-has-text c.args.kinds.now row c.loop-column.column c.at-kind.result.now fits c.at-kind.ensures)
+    (column-has-text c.args.kinds.now row c.loop-column.column c.at-kind.result.now fits c.at-kind.ensures)
 
 pub loop-column-preserved : goal.loop-column-preserved
 loop-column-preserved c =

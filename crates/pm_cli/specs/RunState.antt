@@ -1,0 +1,33 @@
+-- a run that writes, as contracts see it
+use Rattle.std.specs.Prelude.{ℕ, ◌+◌, ◌==◌, if◌then◌else◌, List, Option}
+use Rattle.pm_plan.specs.declared.plan.Plan.{Plan}
+use Rattle.pm_plan.specs.Rows.{Db}
+use Rattle.pm_plan.specs.Tree.{tree_of}
+use Rattle.pm_plan.specs.Outputs.{whole_work}
+use Rattle.pm_cli.specs.Text.{event_lines, end_text}
+use Rattle.pm_cli.specs.declared.run.Stage.{Stage}
+use Rattle.pm_cli.specs.declared.run.Stage.TheVariants as stage
+
+-- the plan, the database, after how many events a progress line comes, the events taken, and the stage
+pub record RunState : Type 0 where
+  pub plan : Plan
+  pub db : Db
+  pub every : Option ℕ
+  pub taken : ℕ
+  pub stage : Stage
+
+-- the head was written, and the end line was not
+abbrev pub CanTurn : Stage → Type 0
+CanTurn stage.Fresh = ⊥
+CanTurn stage.Going = Unit {0}
+CanTurn stage.Ended = ⊥
+CanTurn (stage.Spent fault) = Unit {0}
+
+abbrev pub whole_work_in : RunState → ℕ
+whole_work_in run = whole_work run.db (tree_of run.plan.nodes)
+
+-- what the next turn writes: the lines of the next event, or the end line where none is left
+abbrev pub turn_text : RunState → List ℕ
+turn_text run =
+    if run.taken == whole_work_in run then end_text run.plan run.db
+    else event_lines run.plan run.db run.every (run.taken + 1)
