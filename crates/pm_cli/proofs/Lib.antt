@@ -3,7 +3,7 @@ pub mod Schemas
 pub mod Queries
 pub mod Numbers
 pub mod Tables
-pub mod Laws
+pub mod Readings
 pub mod Verdicts
 pub mod Loading
 pub mod BoundLists

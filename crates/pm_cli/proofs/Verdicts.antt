@@ -13,7 +13,7 @@ use Rattle.pm_cli.specs.declared.refusal.Refusal.TheVariants as refusal
 use Rattle.pm_cli.specs.Forms.{int_column, IsSchema, IsTable}
 use Rattle.pm_cli.specs.Refusal.{OnReadFault}
 use Rattle.pm_cli.specs.Verdict.{Verdict, NoFile, NotBuilt, Loaded, text_limit, table_limit, IsUnfit, FileCalls, IsTableOf, IsQueryOf, TableCalls, QueryCalls, SchemaCalls, Calls, Holds, verdict_of}
-use Rattle.pm_cli.proofs.Laws.{schema_one, table_one}
+use Rattle.pm_cli.proofs.Readings.{schema_one, table_one}
 
 unfit_not : {V : Type 0} (bytes : List ℕ) (limit : ℕ) (IsForm : List ℕ → V → Type 0) (v : V) → length bytes ≤ limit → IsForm bytes v → IsUnfit bytes limit IsForm → ⊥
 unfit_not bytes limit IsForm v within form unfit =

@@ -1,4 +1,4 @@
-use Rattle.pm_cli.proofs.Laws.{schema_one, table_one, table_fits}
+use Rattle.pm_cli.proofs.Readings.{schema_one, table_one, table_fits}
 use Rattle.pm_cli.proofs.forms.have_one_reading.Goals as goal
 
 pub returns-clause-schema : goal.returns-clause-schema

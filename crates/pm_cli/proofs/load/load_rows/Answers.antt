@@ -1,6 +1,6 @@
 use Rattle.std.proofs.Common.{ap}
 use Rattle.pm_cli.specs.Verdict.{table_limit, IsTableOf}
-use Rattle.pm_cli.proofs.Laws.{table_fits}
+use Rattle.pm_cli.proofs.Readings.{table_fits}
 use Rattle.pm_cli.proofs.Loading.{unfit_none, table_unread, first_column}
 use Rattle.pm_cli.proofs.load.load_rows.Goals as goal
 
