@@ -32,7 +32,6 @@ run-answers verdict table s e (inl done) = inl (subst (λ v. IsAnswerTo v s) e (
 run-answers verdict table s e (inr (inl fault)) = inl (subst (λ v. IsAnswerTo v s) e (inr fault))
 run-answers verdict table s e (inr (inr memory)) = inr (subst IsSetback (sym memory) tt)
 
-
 -- a refusal answers what it is given for
 pub refusal-answers : (verdict : Verdict) (r : Refusal) → IfSome (verdict_of (Err r)) (λ given. given ≡ verdict)
     → IsAnswerTo verdict (status_of r) ⊎ IsSetback (status_of r)

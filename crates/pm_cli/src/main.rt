@@ -13,20 +13,18 @@ pub mod load;
 pub mod refusal;
 pub mod run;
 pub mod status;
-pub mod top;
-
 #[cfg(test)]
 mod tests;
-
-pub use status::{Role, Status};
-pub use top::monitor_main;
+pub mod top;
 
 use pm_io::{OsFiles, OsSink};
 use pm_values::{OpenGate, Txt};
+pub use status::{Role, Status};
 use std::alloc::{AllocError, Global};
 use std::env;
 use std::io::ErrorKind;
 use std::process::ExitCode;
+pub use top::monitor_main;
 
 /// The words after the program's name. There are none where one of them is no text, so that the command is refused.
 fn words(rt: &HostRuntime) -> Result<Vec<Txt>, AllocError> {
