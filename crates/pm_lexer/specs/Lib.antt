@@ -1,0 +1,5 @@
+pub mod Byte
+pub mod Head
+pub mod Pieces
+pub mod Symbol
+pub mod Tokens

@@ -1,0 +1,40 @@
+-- The longest pieces at the head of a text.
+use Rattle.std.specs.Prelude.{ℕ, zero, suc, Bool, true, false, ◌==◌, ◌&&◌, ◌+◌, ◌-◌, List, [], ◌∷◌, Option, Some, None, if◌then◌else◌, length, take, drop}
+use Rattle.std.specs.List.{prefix_len}
+use Rattle.std.specs.Char.{is_ascii_digit}
+use Rattle.pm_lexer.specs.Byte.{is_word}
+
+-- the digits that stand behind a point, where the text begins with one
+abbrev pub decimals : List ℕ → ℕ
+decimals [] = 0
+decimals (b ∷ rest) = if b == 46 then prefix_len is_ascii_digit rest else 0
+
+-- a number: its digits before the point, and those behind it
+abbrev pub whole_len : List ℕ → ℕ
+whole_len text = prefix_len is_ascii_digit text
+
+abbrev pub decimals_len : List ℕ → ℕ
+decimals_len text = decimals (drop (whole_len text) text)
+
+abbrev pub number_len : List ℕ → ℕ
+number_len text = if decimals_len text == 0 then whole_len text else whole_len text + 1 + decimals_len text
+
+-- one more, where there is a number
+abbrev pub longer : ℕ → Option ℕ → Option ℕ
+longer n None = None
+longer n (Some m) = Some (n + m)
+
+-- behind an opening quote: the bytes up to the closing quote, which stands before no quote; a quote before a quote is a doubled one
+unfoldable pub quotation : ℕ → List ℕ → Option ℕ
+quotation quote [] = None
+quotation quote (b ∷ []) = if b == quote then Some 0 else None
+quotation quote (b ∷ c ∷ rest) =
+    if b == quote then (if c == quote then longer 2 (quotation quote rest) else Some 0)
+    else longer 1 (quotation quote (c ∷ rest))
+
+-- what stands between quotes, with each doubled quote once
+unfoldable pub single_quotes : ℕ → List ℕ → List ℕ
+single_quotes quote [] = []
+single_quotes quote (b ∷ []) = b ∷ []
+single_quotes quote (b ∷ c ∷ rest) =
+    if b == quote && c == quote then b ∷ single_quotes quote rest else b ∷ single_quotes quote (c ∷ rest)
