@@ -1,2 +1,4 @@
 pub mod Boundary
+pub mod Content
 pub mod Quotation
+pub mod Walk

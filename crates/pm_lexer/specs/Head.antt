@@ -1,6 +1,7 @@
 -- What stands at the head of a text: the longest token there, or a blank or a comment, or why there is none.
-use Rattle.std.specs.Prelude.{ℕ, Bool, true, false, ◌==◌, ◌&&◌, ◌||◌, ◌+◌, ◌-◌, nat_lt, nat_le, List, [], ◌∷◌, Option, Some, None, Result, Ok, Err, if◌then◌else◌, length, take, drop, codes, is_some, nat_eq, position}
+use Rattle.std.specs.Prelude.{◌≡◌, ◌<◌, ◌≤◌, ℕ, Bool, true, false, ◌==◌, ◌&&◌, ◌||◌, ◌+◌, ◌-◌, nat_lt, nat_le, List, [], ◌∷◌, Option, Some, None, Result, Ok, Err, if◌then◌else◌, length, take, drop, codes, is_some, nat_eq, position}
 use Rattle.std.specs.List.{prefix_len, starts_with}
+use Rattle.std.specs.Str.{IsCharBoundary}
 use Rattle.std.specs.Char.{is_ascii_digit, is_ascii_control}
 use Rattle.pm_lexer.specs.declared.token.TokenKind.{TokenKind}
 use Rattle.pm_lexer.specs.declared.token.TokenKind.TheVariants as kind
@@ -70,3 +71,15 @@ head_of at (b ∷ rest) =
     else (if b == 34 then quoted_at at rest
     else (if b == 39 then text_at at rest
     else sign_at at (b ∷ rest))))))
+
+-- the text may be cut behind its first n bytes, of which there is one
+pub record IsCut (text : List ℕ) (n : ℕ) : Type 0 where
+  pub some : 0 < n
+  pub within : n ≤ length text
+  pub boundary : IsCharBoundary text n
+
+-- what stands at the head of a text is a part of it that ends between two characters, and a number is short
+abbrev pub Cuts : List ℕ → Result Head LexBad → Type 0
+Cuts text (Ok (head.Gap n)) = IsCut text n
+Cuts text (Ok (head.Piece k n)) = IsCut text n × (k ≡ kind.Number → n ≤ 31)
+Cuts text (Err e) = Unit {0}

@@ -1,8 +1,10 @@
 -- The longest pieces at the head of a text.
-use Rattle.std.specs.Prelude.{ℕ, zero, suc, Bool, true, false, ◌==◌, ◌&&◌, ◌+◌, ◌-◌, List, [], ◌∷◌, Option, Some, None, if◌then◌else◌, length, take, drop}
+use Rattle.std.specs.Prelude.{ℕ, zero, suc, Bool, true, false, ◌==◌, ◌&&◌, ◌+◌, ◌-◌, List, [], ◌∷◌, Option, Some, None, if◌then◌else◌, length, take, drop, nat_le, slice_index}
 use Rattle.std.specs.List.{prefix_len}
 use Rattle.std.specs.Char.{is_ascii_digit}
-use Rattle.pm_lexer.specs.Byte.{is_word}
+use Rattle.pm_lexer.specs.declared.token.Token.{Token}
+use Rattle.pm_lexer.specs.declared.token.TokenKind.{TokenKind}
+use Rattle.pm_lexer.specs.declared.token.TokenKind.TheVariants as kind
 
 -- the digits that stand behind a point, where the text begins with one
 abbrev pub decimals : List ℕ → ℕ
@@ -38,3 +40,27 @@ single_quotes quote [] = []
 single_quotes quote (b ∷ []) = b ∷ []
 single_quotes quote (b ∷ c ∷ rest) =
     if b == quote && c == quote then b ∷ single_quotes quote rest else b ∷ single_quotes quote (c ∷ rest)
+
+-- what stands behind a quote, where one comes next
+abbrev pub behind_quote : ℕ → List ℕ → List ℕ
+behind_quote quote [] = []
+behind_quote quote (b ∷ rest) = if b == quote then rest else b ∷ rest
+
+-- what stands between these quotes, where they enclose the bytes
+abbrev pub inside : ℕ → List ℕ → List ℕ
+inside quote bytes =
+    if nat_le 2 (length bytes) && slice_index bytes 0 == quote && slice_index bytes (length bytes - 1) == quote
+    then take (length bytes - 2) (drop 1 bytes) else bytes
+
+-- the name that a name's token stands for, or the text that a text's token stands for
+abbrev pub content_at : TokenKind → List ℕ → List ℕ
+content_at kind.Quoted slice = single_quotes 34 (inside 34 slice)
+content_at kind.Text slice = single_quotes 39 (inside 39 slice)
+content_at kind.Name slice = slice
+content_at kind.Reserved slice = slice
+content_at kind.Number slice = slice
+content_at kind.Sign slice = slice
+content_at kind.End slice = slice
+
+abbrev pub content_of : Token → List ℕ
+content_of token = content_at token.kind token.slice

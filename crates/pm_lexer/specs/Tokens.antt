@@ -1,5 +1,5 @@
 -- The tokens of a text.
-use Rattle.std.specs.Prelude.{ℕ, zero, suc, ◌≡◌, ◌≤◌, ◌-◌, ◌+◌, List, [], ◌∷◌, Result, Ok, Err, take, length, All}
+use Rattle.std.specs.Prelude.{ℕ, zero, suc, ◌≡◌, ◌≤◌, ◌-◌, ◌+◌, List, [], ◌∷◌, ◌++◌, Result, Ok, Err, take, length, All}
 use Rattle.pm_lexer.specs.declared.token.Token.{Token}
 use Rattle.pm_lexer.specs.declared.token.TokenKind.TheVariants as kind
 use Rattle.pm_lexer.specs.declared.fault.LexBad.{LexBad}
@@ -26,6 +26,11 @@ tokens_behind zero at (b ∷ rest) =
       | Ok (head.Piece k n) ↦ before (record { kind = k; slice = take n (b ∷ rest); at = at }) (tokens_behind (n - 1) (suc at) rest)
       | Err e ↦ Err e
     ]
+
+-- these tokens before the others, where there are tokens
+abbrev pub all_before : List Token → Result (List Token) LexBad → Result (List Token) LexBad
+all_before tokens (Ok more) = Ok (tokens ++ more)
+all_before tokens (Err e) = Err e
 
 -- the tokens of a text, or the refusal with the least place
 unfoldable pub tokens_of : List ℕ → Result (List Token) LexBad

@@ -3,7 +3,7 @@ ghost use Rattle.std.specs.List.{prefix_len};
 ghost use Rattle.std.specs.Char.{is_ascii_control, is_ascii_digit};
 ghost use Rattle.pm_lexer.specs.Byte.{is_blank, is_letter, is_word, is_inline};
 ghost use Rattle.pm_lexer.specs.Pieces.{decimals, whole_len, decimals_len, number_len, quotation, single_quotes};
-ghost use Rattle.pm_lexer.specs.Head.{name_at, number_at, named_at, quoted_at, text_at, sign_at, head_of};
+ghost use Rattle.pm_lexer.specs.Head.{name_at, number_at, named_at, quoted_at, text_at, sign_at, head_of, Cuts};
 
 use crate::fault::LexBad;
 use crate::symbol::Symbol;
@@ -129,7 +129,11 @@ fn number(text: &[u8], at: u64) -> Result<Head, LexBad>
     if decimals > 6 || whole > 30 || whole + decimals > 30 {
         return Err(LexBad::LongNumber(at));
     }
-    let len = if decimals == 0 { whole } else { whole + 1 + decimals };
+    let len = if decimals == 0 {
+        whole
+    } else {
+        whole + 1 + decimals
+    };
     Ok(Head::Piece(TokenKind::Number, len))
 }
 
@@ -199,8 +203,18 @@ fn sign(text: &[u8], at: u64) -> Result<Head, LexBad>
 }
 
 /// What stands at the head of a text that is not empty, its first byte being at this place.
+#[tactic(auto, using(crate::proofs::Boundary::head_cuts))]
+pub fn head_of(text: &str, at: u64) -> Result<Head, LexBad>
+    requires some { 0 < length text.now }
+    requires room { at + length text.now < 2 ^ 63 }
+    ensures head { result ≡ head_of at text.now }
+    ensures cuts { Cuts text.now result }
+{
+    head_of_bytes(text.as_bytes(), at)
+}
+
 #[tactic(auto, unfolding(crate::specs::Head::head_of))]
-pub fn head_of(text: &[u8], at: u64) -> Result<Head, LexBad>
+fn head_of_bytes(text: &[u8], at: u64) -> Result<Head, LexBad>
     requires some { 0 < length text.now }
     requires room { at + length text.now < 2 ^ 63 }
     ensures { result ≡ head_of at text.now }

@@ -170,7 +170,10 @@ impl Symbol {
     pub fn reserved_word(bytes: &[u8]) -> Option<Symbol>
         ensures { result ≡ reserved_word bytes.now }
     {
-        RESERVED.iter().copied().find(|word| spells(bytes, word.spelling()))
+        RESERVED
+            .iter()
+            .copied()
+            .find(|word| spells(bytes, word.spelling()))
     }
 
     /// The sign that these bytes are.
@@ -192,7 +195,9 @@ impl Symbol {
             TokenKind::Number => Symbol::Number,
             TokenKind::Text => Symbol::Text,
             TokenKind::End => Symbol::End,
-            TokenKind::Reserved => Symbol::reserved_word(token.slice.bytes()).unwrap_or(Symbol::Other),
+            TokenKind::Reserved => Symbol::reserved_word(token.slice.bytes()).unwrap_or(
+                Symbol::Other,
+            ),
             TokenKind::Sign => Symbol::sign_of(token.slice.bytes()).unwrap_or(Symbol::Other),
         }
     }
@@ -210,5 +215,8 @@ fn spells(bytes: &[u8], text: &str) -> bool
 fn canonical_sign(bytes: &[u8]) -> Option<Symbol>
     ensures { result ≡ canonical_sign bytes.now }
 {
-    SIGNS.iter().copied().find(|sign| bytes == sign.spelling().as_bytes())
+    SIGNS
+        .iter()
+        .copied()
+        .find(|sign| bytes == sign.spelling().as_bytes())
 }
