@@ -1,4 +1,4 @@
 pub mod Boundary
-pub mod Content
+pub mod QuoteEnds
 pub mod Quotation
 pub mod Walk

@@ -1,5 +1,5 @@
 -- The longest pieces at the head of a text.
-use Rattle.std.specs.Prelude.{ℕ, zero, suc, Bool, true, false, ◌==◌, ◌&&◌, ◌+◌, ◌-◌, List, [], ◌∷◌, Option, Some, None, if◌then◌else◌, length, take, drop, nat_le, slice_index}
+use Rattle.std.specs.Prelude.{◌≡◌, ◌≢◌, ◌<◌, ℕ, zero, suc, Bool, true, false, ◌==◌, ◌&&◌, ◌+◌, ◌-◌, List, [], ◌∷◌, Option, Some, None, if◌then◌else◌, length, take, drop, nat_le, slice_index}
 use Rattle.std.specs.List.{prefix_len}
 use Rattle.std.specs.Char.{is_ascii_digit}
 use Rattle.pm_lexer.specs.declared.token.Token.{Token}
@@ -40,6 +40,14 @@ single_quotes quote [] = []
 single_quotes quote (b ∷ []) = b ∷ []
 single_quotes quote (b ∷ c ∷ rest) =
     if b == quote && c == quote then b ∷ single_quotes quote rest else b ∷ single_quotes quote (c ∷ rest)
+
+-- none of the first n bytes is this one
+abbrev pub NoneBefore : ℕ → List ℕ → ℕ → Type 0
+NoneBefore b bytes n = (k : ℕ) → k < n → slice_index bytes k ≢ b
+
+-- this byte stands first at i
+abbrev pub IsFirst : ℕ → List ℕ → ℕ → Type 0
+IsFirst b bytes i = (i < length bytes) × (slice_index bytes i ≡ b) × NoneBefore b bytes i
 
 -- what stands behind a quote, where one comes next
 abbrev pub behind_quote : ℕ → List ℕ → List ℕ

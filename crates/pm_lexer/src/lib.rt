@@ -3,15 +3,15 @@
 //! a quoted token stands for. A theory of readers of token lists is in specs/ and proofs/.
 #![tactic(auto)]
 
-pub mod content;
 pub mod fault;
 pub mod head;
 pub mod lexing;
 pub mod symbol;
 pub mod token;
+pub mod unquote;
 
-pub use content::content;
 pub use fault::LexBad;
 pub use lexing::lex;
 pub use symbol::Symbol;
 pub use token::{Token, TokenKind, Tokens};
+pub use unquote::content;

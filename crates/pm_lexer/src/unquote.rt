@@ -1,5 +1,5 @@
-ghost use Rattle.std.specs.Prelude.{◌≡◌, ◌<◌, ◌≤◌, ◌^◌, ◌++◌, take, drop, IfOk, string_bytes};
-ghost use Rattle.pm_lexer.specs.Pieces.{inside, behind_quote, single_quotes, content_of};
+ghost use Rattle.std.specs.Prelude.{◌≡◌, ◌<◌, ◌≤◌, ◌^◌, ◌++◌, take, drop, length, IfOk, MatchOption};
+ghost use Rattle.pm_lexer.specs.Pieces.{inside, behind_quote, single_quotes, content_of, NoneBefore, IsFirst};
 
 use crate::token::{Token, TokenKind};
 use pm_values::Txt;
@@ -18,7 +18,7 @@ pub fn content(alloc: Global, token: &Token) -> Result<Txt, AllocError>
 }
 
 // What stands between these quotes, where they enclose the text.
-#[tactic(auto, using(crate::proofs::Content::boundary_after_first, crate::proofs::Content::boundary_before_last))]
+#[tactic(auto, using(crate::proofs::QuoteEnds::boundary_after_first, crate::proofs::QuoteEnds::boundary_before_last))]
 fn inside(quote: u8, text: &str) -> &str
     requires { quote < 128 }
     ensures { result.now ≡ inside quote text.now }
@@ -33,22 +33,42 @@ fn inside(quote: u8, text: &str) -> &str
 }
 
 // The text with each doubled quote once.
+#[tactic(auto, using(crate::proofs::QuoteEnds::boundary_behind_quote))]
 fn single_quotes(alloc: Global, quote: u8, text: &str) -> Result<Txt, AllocError>
     requires { quote < 128 }
     ensures { IfOk result (λ single. single ≡ single_quotes quote text.now) }
 {
     let mut single = String::new(alloc);
     let mut rest = text;
-    while let Some(at) = rest.as_bytes().iter().position(|b| *b == quote) {
-        let (piece, after) = rest.split_at(at + 1);
-        single.push_str(piece)?;
-        rest = behind_quote(quote, after);
+    'pieces: loop {
+        match quote_at(quote, rest.as_bytes()) {
+            None => {
+                single.push_str(rest)?;
+                return Txt::new(alloc, single.as_str());
+            }
+            Some(at) => {
+                let (piece, after) = rest.split_at(at + 1);
+                single.push_str(piece)?;
+                rest = behind_quote(quote, after);
+            }
+        }
     }
-    single.push_str(rest)?;
-    Txt::new(alloc, single.as_str())
+}
+
+// The place of the first quote.
+fn quote_at(quote: u8, bytes: &[u8]) -> Option<usize>
+    ensures { MatchOption result (NoneBefore quote bytes.now (length bytes.now)) (λ i. IsFirst quote bytes.now i) }
+{
+    for (i, b) in bytes.iter().enumerate() {
+        if *b == quote {
+            return Some(i);
+        }
+    }
+    None
 }
 
 // What stands behind a quote, where one comes next.
+#[tactic(auto, using(crate::proofs::QuoteEnds::boundary_after_first))]
 fn behind_quote(quote: u8, text: &str) -> &str
     requires { quote < 128 }
     ensures { result.now ≡ behind_quote quote text.now }
