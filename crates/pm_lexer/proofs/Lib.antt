@@ -1,4 +1,6 @@
 pub mod Boundary
 pub mod QuoteEnds
+pub mod Phrases
 pub mod Quotation
+pub mod Readers
 pub mod Walk

@@ -3,3 +3,5 @@ pub mod Head
 pub mod Pieces
 pub mod Symbol
 pub mod Tokens
+pub mod Language
+pub mod Reading

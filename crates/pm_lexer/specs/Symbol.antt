@@ -1,5 +1,6 @@
 -- What a grammar sees of a token.
 use Rattle.std.specs.Prelude.{ℕ, Bool, List, [], Option, Some, codes, unwrap_or, if◌then◌else◌}
+use denote.Enum.Bare.{sameb}
 use Rattle.std.specs.List.{find}
 use Rattle.std.specs.Str.{bytes_eq, str_eq_ignore_ascii_case}
 use Rattle.pm_lexer.specs.declared.token.Token.{Token}
@@ -7,6 +8,7 @@ use Rattle.pm_lexer.specs.declared.token.TokenKind.{TokenKind}
 use Rattle.pm_lexer.specs.declared.token.TokenKind.TheVariants as kind
 use Rattle.pm_lexer.specs.declared.symbol.Symbol.{Symbol}
 use Rattle.pm_lexer.specs.declared.symbol.Symbol.TheVariants as symbol
+use Rattle.pm_lexer.specs.contracts.symbol.Symbol.{the_type}
 use Rattle.pm_lexer.specs.declared.symbol.TheConstants.{RESERVED, SIGNS}
 
 -- a reserved word in capitals, or a sign
@@ -83,5 +85,13 @@ symbol_at kind.Sign slice = unwrap_or (sign_of slice) symbol.Other
 symbol_at kind.End slice = symbol.End
 
 -- what a grammar sees of a token
-abbrev pub symbol_of : Token → Symbol
+unfoldable pub symbol_of : Token → Symbol
 symbol_of token = symbol_at token.kind token.slice
+
+-- whether two symbols are one
+unfoldable pub same_symbol : Symbol → Symbol → Bool
+same_symbol = sameb the_type
+
+-- whether a token is this symbol
+abbrev pub is : Symbol → Token → Bool
+is symbol token = same_symbol (symbol_of token) symbol

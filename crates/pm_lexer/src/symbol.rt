@@ -187,6 +187,7 @@ impl Symbol {
     }
 
     /// What a grammar sees of a token.
+    #[tactic(auto, unfolding(crate::specs::Symbol::symbol_of))]
     pub fn of(token: &Token) -> Symbol
         ensures { result ≡ symbol_of token.now }
     {
