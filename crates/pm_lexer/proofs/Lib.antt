@@ -1,5 +1,6 @@
 pub mod Boundary
 pub mod QuoteEnds
+pub mod Lists
 pub mod Phrases
 pub mod Quotation
 pub mod Readers

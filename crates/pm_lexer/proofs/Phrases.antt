@@ -34,17 +34,22 @@ pub record Took {A : Type 0} (S : Token → Type 0) (P : Phrase A) (d : ℕ) (fr
   pub keeps : (d' : ℕ) (g : Gate) (next : Next A) (w : List Token) → d ≤ d' → next a w → P d' g next (front ++ w)
   pub only : (d' : ℕ) (g : Gate) (next : Next A) (w : List Token) → Avoids S next → Heads rest w → P d' g next (front ++ w) → next a w
 
--- there is a phrase
-pub record Able {A : Type 0} (P : Phrase A) (d : ℕ) : Type 1 where
-  pub more : List Token
-  pub value : A
-  pub ends : (d' : ℕ) (g : Gate) (next : Next A) (v : List Token) → d ≤ d' → next value v → P d' g next (more ++ v)
+-- the gate is open from where these tokens are left on
+abbrev pub Open : Gate → List Token → Type 0
+Open g rest = (ts : List Token) → length ts ≤ length rest → g ts
 
--- these two begin a phrase, in which an entry past its limit may begin where the second does
+pub open_behind : (g : Gate) (front rest : List Token) → Open g (front ++ rest) → Open g rest
+open_behind g front rest o ts h = o ts (omega (arith, length-append front rest))
+
+-- these two begin a phrase, of which the entries past their limit may begin from the second on
 pub record Began {A : Type 0} (P : Phrase A) (d : ℕ) (front tail : List Token) : Type 1 where
   pub more : List Token
   pub value : A
-  pub ends : (d' : ℕ) (g : Gate) (next : Next A) (v : List Token) → d ≤ d' → g (tail ++ (more ++ v)) → next value v → P d' g next (front ++ (tail ++ (more ++ v)))
+  pub ends : (d' : ℕ) (g : Gate) (next : Next A) (v : List Token) → d ≤ d' → Open g (tail ++ (more ++ v)) → next value v → P d' g next (front ++ (tail ++ (more ++ v)))
+
+-- there is a phrase
+abbrev pub Able : {A : Type 0} → Phrase A → ℕ → Type 1
+Able P d = Began P d [] []
 
 -- why no phrase goes on
 pub data Cause : Type 0 where
@@ -57,11 +62,11 @@ stop_at no_phrase p = expected p
 stop_at deeper p = too_deep p
 stop_at longer p = too_many p
 
--- the limits within which none does
-abbrev pub Where : Cause → ℕ → ℕ → Gate → Type 0
-Where no_phrase d d' g = Unit {0}
-Where deeper d d' g = d' ≡ d
-Where longer d d' g = (ts : List Token) → g ts → ⊥
+-- the limits within which none does, where these tokens are left
+abbrev pub Where : Cause → ℕ → ℕ → Gate → List Token → Type 0
+Where no_phrase d d' g rest = Unit {0}
+Where deeper d d' g rest = d' ≡ d
+Where longer d d' g rest = (ts : List Token) → length rest ≤ length ts → g ts → ⊥
 
 -- with the next token a phrase begins whose limits are wider
 pub record GoesOn {A : Type 0} (P : Phrase A) (front rest : List Token) (d : ℕ) : Type 1 where
@@ -79,7 +84,7 @@ Goes P d front rest longer = GoesOn P front rest d
 pub record Fault {A : Type 0} (S : Token → Type 0) (P : Phrase A) (d : ℕ) (front rest : List Token) (e : Stop) : Type 1 where
   pub cause : Cause
   pub place : e ≡ stop_at cause (place_of rest)
-  pub dead : (d' : ℕ) (g : Gate) (next : Next A) (w : List Token) → Where cause d d' g → Avoids S next → Heads rest w → P d' g next (front ++ w) → ⊥
+  pub dead : (d' : ℕ) (g : Gate) (next : Next A) (w : List Token) → Where cause d d' g w → Avoids S next → Heads rest w → P d' g next (front ++ w) → ⊥
   pub viable : Began P d front []
   pub goes : Goes P d front rest cause
 
@@ -111,12 +116,6 @@ Nothing t = ⊥
 abbrev pub NotOther : {A : Type 0} → (Token → Type 0) → Phrase A → List Token → Type 1
 NotOther {A} S P ts = (d : ℕ) (g : Gate) (next : Next A) (w : List Token) → Avoids S next → Heads ts w → P d g next w → ⊥
 
-pub began_from : {A : Type 0} {P : Phrase A} {d : ℕ} → Able P d → Began P d [] []
-began_from a = record { more = a.more; value = a.value; ends = λ d' g next v le o n. a.ends d' g next v le n }
-
-pub weaker_able : {A : Type 0} {P : Phrase A} {d : ℕ} (e : ℕ) → d ≤ e → Able P d → Able P e
-weaker_able e le a = record { more = a.more; value = a.value; ends = λ d' g next v h n. a.ends d' g next v (omega arith) n }
-
 pub weaker_began : {A : Type 0} {P : Phrase A} {d : ℕ} {front tail : List Token} (e : ℕ) → d ≤ e → Began P d front tail → Began P e front tail
 weaker_began e le b = record { more = b.more; value = b.value; ends = λ d' g next v h o n. b.ends d' g next v (omega arith) o n }
 
@@ -134,7 +133,7 @@ goes_moved P Q d e front second rest longer up deep flat g = moved flat g
 
 -- a fault that is met in another language
 pub fault_moved : {A B : Type 0} {S T : Token → Type 0} {P : Phrase A} {Q : Phrase B} {d e : ℕ} {front second rest : List Token} {stop : Stop} (f : Fault S P d front rest stop) (up : ℕ → ℕ)
-    → ((d' : ℕ) (g : Gate) (next : Next B) (w : List Token) → Where f.cause e d' g → Avoids T next → Heads rest w → Q d' g next (second ++ w) → ⊥)
+    → ((d' : ℕ) (g : Gate) (next : Next B) (w : List Token) → Where f.cause e d' g w → Avoids T next → Heads rest w → Q d' g next (second ++ w) → ⊥)
     → ((n : ℕ) (tail : List Token) → Began P n front tail → Began Q (up n) second tail) → ((tail : List Token) → Began P d front tail → Began Q e second tail)
     → Fault T Q e second rest stop
 fault_moved {A} {B} {S} {T} {P} {Q} {d} {e} {front} {second} {rest} {stop} f up dead deep flat = record { cause = f.cause; place = f.place; dead = dead; viable = flat [] f.viable; goes = goes_moved P Q d e front second rest f.cause up deep flat f.goes }

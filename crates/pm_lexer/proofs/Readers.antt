@@ -3,22 +3,22 @@ use Rattle.std.proofs.Common.{◌≡◌, ◌≤◌, ◌<◌, ◌+◌, ◌⊎◌,
 use Rattle.pm_lexer.specs.declared.token.Token.{Token}
 use Rattle.pm_lexer.specs.Language.{Lang, Gate, Is}
 use Rattle.pm_lexer.specs.Reading.{Stop, expected, too_deep, too_many, Read, ◌>>=◌, place_of, sees, token_at}
-use Rattle.pm_lexer.proofs.Phrases.{Phrase, Next, Avoids, Heads, heads_under, Took, Able, Began, Cause, no_phrase, deeper, longer, Where, Goes, Fault, Taken, Faulted, Law, Reader, Nothing, NotOther, began_from, weaker_able, weaker_began, fault_moved}
+use Rattle.pm_lexer.proofs.Phrases.{Phrase, Next, Avoids, Heads, heads_under, Took, Able, Began, Cause, no_phrase, deeper, longer, Where, Goes, Fault, Taken, Faulted, Law, Reader, Nothing, NotOther, Open, open_behind, weaker_began, fault_moved}
 
 -- nothing, with a value
 pub pure_reader : {A : Type 0} (S : Token → Type 0) (d : ℕ) (a : A) → Reader S (λ _ _ next. next a) d (λ r. Ok (a, r))
 pure_reader S d a = record {
   law = λ ts. record { front = []; is = refl; took = record { keeps = λ d' g next w le h. h; only = λ d' g next w avoids heads h. h } };
-  able = record { more = []; value = a; ends = λ d' g next v le h. h };
+  able = record { more = []; value = a; ends = λ d' g next v le o h. h };
 }
 
 -- a fault at the first token: no phrase begins like these tokens
 pub first_fault : {A : Type 0} (S : Token → Type 0) (P : Phrase A) (d : ℕ) (ts : List Token) → NotOther S P ts → Able P d → Fault S P d [] ts (expected (place_of ts))
-first_fault S P d ts none able = record { cause = no_phrase; place = refl; dead = λ d' g next w _ avoids heads h. none d' g next w avoids heads h; viable = began_from able; goes = tt }
+first_fault S P d ts none able = record { cause = no_phrase; place = refl; dead = λ d' g next w _ avoids heads h. none d' g next w avoids heads h; viable = able; goes = tt }
 
 -- a token
 pub token_able : (test : Token → Bool) (t : Token) → test t ≡ true → (d : ℕ) → Able (λ _ _. Is test) d
-token_able test t e d = record { more = t ∷ []; value = t; ends = λ d' g next v le h. (e, h) }
+token_able test t e d = record { more = t ∷ []; value = t; ends = λ d' g next v le o h. (e, h) }
 
 pub not_seen : (test : Token → Bool) (ts w : List Token) (next : Next Token) → sees test ts ≡ false → Heads ts w → Is test next w → ⊥
 not_seen test ts [] next e heads h = h
@@ -58,18 +58,13 @@ Then P Q d g next = P d g (λ a. Q a d g next)
 abbrev pub Clear : {A B : Type 0} → (Token → Type 0) → (Token → Type 0) → (A → Phrase B) → Type 1
 Clear {A} {B} SP S Q = (a : A) (d' : ℕ) (g : Gate) (next : Next B) → Avoids S next → (t : Token) (ts : List Token) → SP t → Q a d' g next (t ∷ ts) → ⊥
 
-pub then_able : {A B : Type 0} {P : Phrase A} {Q : A → Phrase B} {d : ℕ} → Able P d → ((a : A) → Able (Q a) d) → Able (Then P Q) d
-then_able {A} {B} {P} {Q} {d} v q = record {
-  more = v.more ++ (q v.value).more;
-  value = (q v.value).value;
-  ends = λ d' g next w le h. rw append_assoc (v.ends d' g (λ a. Q a d' g next) ((q v.value).more ++ w) le ((q v.value).ends d' g next w le h));
-}
-
-then_began : {A B : Type 0} {P : Phrase A} {Q : A → Phrase B} {d : ℕ} {front tail : List Token} → ((a : A) → Able (Q a) d) → Began P d front tail → Began (Then P Q) d front tail
+pub then_began : {A B : Type 0} {P : Phrase A} {Q : A → Phrase B} {d : ℕ} {front tail : List Token} → ((a : A) → Able (Q a) d) → Began P d front tail → Began (Then P Q) d front tail
 then_began {A} {B} {P} {Q} {d} {front} {tail} q v = record {
   more = v.more ++ (q v.value).more;
   value = (q v.value).value;
-  ends = λ d' g next w le o h. rw append_assoc (v.ends d' g (λ a. Q a d' g next) ((q v.value).more ++ w) le (rw append_assoc at o) ((q v.value).ends d' g next w le h));
+  ends = λ d' g next w le o h.
+    let o' : Open g (tail ++ (v.more ++ ((q v.value).more ++ w))) = rw append_assoc at o in
+    rw append_assoc (v.ends d' g (λ a. Q a d' g next) ((q v.value).more ++ w) le o' ((q v.value).ends d' g next w le (open_behind g v.more _ (open_behind g tail _ o')) h));
 }
 
 -- behind a phrase that was taken
@@ -119,7 +114,7 @@ then_law {A} {B} S SP P Q d ts (Err e) q lp lq able clear = record {
   is = lp.is;
   fault = fault_moved lp.fault (λ n. d + n)
     (λ d' g next w where' avoids heads h. lp.fault.dead d' g (λ a. Q a d' g next) w where' (λ a t ts s n. clear a d' g next avoids t ts s n) heads h)
-    (λ n tail b. then_began (λ a. weaker_able (d + n) (omega arith) (able a)) (weaker_began (d + n) (omega arith) b))
+    (λ n tail b. then_began (λ a. weaker_began (d + n) (omega arith) (able a)) (weaker_began (d + n) (omega arith) b))
     (λ tail b. then_began able b);
 }
 
@@ -127,7 +122,7 @@ pub then_reader : {A B : Type 0} (S SP : Token → Type 0) (P : Phrase A) (Q : A
     → ((a : A) → Reader S (Q a) d (λ r. q (a, r))) → Clear SP S Q → Reader S (Then P Q) d (λ ts. p ts >>= q)
 then_reader S SP P Q d p q first second clear = record {
   law = λ ts. then_law S SP P Q d ts (p ts) q (first.law ts) (λ a r _. (second a).law r) (λ a. (second a).able) clear;
-  able = then_able first.able (λ a. (second a).able);
+  able = then_began (λ a. (second a).able) first.able;
 }
 
 pub token_reader : {B : Type 0} (S : Token → Type 0) (test : Token → Bool) (t₀ : Token) → test t₀ ≡ true → (Q : Token → Phrase B) (d : ℕ) (q : Token × List Token → Read B) → ((t : Token) → Reader S (Q t) d (λ r. q (t, r)))
@@ -142,11 +137,8 @@ pub record Same {A : Type 0} (P Q : Phrase A) : Type 1 where
   pub to : (d : ℕ) (g : Gate) (next : Next A) (ts : List Token) → P d g next ts → Q d g next ts
   pub from : (d : ℕ) (g : Gate) (next : Next A) (ts : List Token) → Q d g next ts → P d g next ts
 
-same_began : {A : Type 0} (P Q : Phrase A) {d : ℕ} {front tail : List Token} → Same P Q → Began P d front tail → Began Q d front tail
+pub same_began : {A : Type 0} (P Q : Phrase A) {d : ℕ} {front tail : List Token} → Same P Q → Began P d front tail → Began Q d front tail
 same_began P Q same v = record { more = v.more; value = v.value; ends = λ d' g next w le o h. same.to d' g next _ (v.ends d' g next w le o h) }
-
-pub same_able : {A : Type 0} (P Q : Phrase A) {d : ℕ} → Same P Q → Able P d → Able Q d
-same_able P Q same v = record { more = v.more; value = v.value; ends = λ d' g next w le h. same.to d' g next _ (v.ends d' g next w le h) }
 
 pub same_law : {A : Type 0} (S : Token → Type 0) (P Q : Phrase A) (d : ℕ) (ts : List Token) (r : Read A) → Same P Q → Law S P d ts r → Law S Q d ts r
 same_law S P Q d ts (Ok x) same l = record {
@@ -166,17 +158,17 @@ same_law S P Q d ts (Err e) same l = record {
 }
 
 pub same_reader : {A : Type 0} (S : Token → Type 0) (P Q : Phrase A) (d : ℕ) (p : List Token → Read A) → Same P Q → Reader S P d p → Reader S Q d p
-same_reader S P Q d p same r = record { law = λ ts. same_law S P Q d ts (p ts) same (r.law ts); able = same_able P Q same r.able }
+same_reader S P Q d p same r = record { law = λ ts. same_law S P Q d ts (p ts) same (r.law ts); able = same_began P Q same r.able }
 
 -- one of two languages, where no phrase of the other begins like these tokens
 abbrev pub Or : {A : Type 0} → Phrase A → Phrase A → Phrase A
 Or P Q d g next ts = P d g next ts ⊎ Q d g next ts
 
-second_began : {A : Type 0} (P Q : Phrase A) {d : ℕ} {front tail : List Token} → Began Q d front tail → Began (Or P Q) d front tail
+pub second_began : {A : Type 0} (P Q : Phrase A) {d : ℕ} {front tail : List Token} → Began Q d front tail → Began (Or P Q) d front tail
 second_began P Q v = record { more = v.more; value = v.value; ends = λ d' g next w le o h. inr (v.ends d' g next w le o h) }
 
-pub first_able : {A : Type 0} (P Q : Phrase A) {d : ℕ} → Able P d → Able (Or P Q) d
-first_able P Q v = record { more = v.more; value = v.value; ends = λ d' g next w le h. inl (v.ends d' g next w le h) }
+pub first_began : {A : Type 0} (P Q : Phrase A) {d : ℕ} {front tail : List Token} → Began P d front tail → Began (Or P Q) d front tail
+first_began P Q v = record { more = v.more; value = v.value; ends = λ d' g next w le o h. inl (v.ends d' g next w le o h) }
 
 second_only : {A : Type 0} (S : Token → Type 0) (P Q : Phrase A) (ts front rest : List Token) → ts ≡ front ++ rest → NotOther S P ts
     → (d' : ℕ) (g : Gate) (next : Next A) (w : List Token) → Avoids S next → Heads rest w → Or P Q d' g next (front ++ w) → Q d' g next (front ++ w)
@@ -211,30 +203,20 @@ abbrev pub Under : {A : Type 0} → Phrase A → Phrase A
 Under P zero g next ts = ⊥
 Under P (suc d) g next ts = P d g next ts
 
-under_began : {A : Type 0} (P : Phrase A) {d : ℕ} {front tail : List Token} → Began P d front tail → Began (Under P) (suc d) front tail
+pub under_began : {A : Type 0} (P : Phrase A) {d : ℕ} {front tail : List Token} → Began P d front tail → Began (Under P) (suc d) front tail
 under_began {A} P {d} {front} {tail} v = record {
   more = v.more;
   value = v.value;
-  ends = λ d'. elim d' as (λ n. (g : Gate) (next : Next A) (w : List Token) → suc d ≤ n → g (tail ++ (v.more ++ w)) → next v.value w → Under P n g next (front ++ (tail ++ (v.more ++ w)))) [
+  ends = λ d'. elim d' as (λ n. (g : Gate) (next : Next A) (w : List Token) → suc d ≤ n → Open g (tail ++ (v.more ++ w)) → next v.value w → Under P n g next (front ++ (tail ++ (v.more ++ w)))) [
     | zero ↦ λ g next w le o h. absurd (omega arith)
     | suc n ↦ λ g next w le o h. v.ends n g next w (omega arith) o h
   ];
 }
 
-pub under_able : {A : Type 0} (P : Phrase A) {d : ℕ} → Able P d → Able (Under P) (suc d)
-under_able {A} P {d} v = record {
-  more = v.more;
-  value = v.value;
-  ends = λ d'. elim d' as (λ n. (g : Gate) (next : Next A) (w : List Token) → suc d ≤ n → next v.value w → Under P n g next (v.more ++ w)) [
-    | zero ↦ λ g next w le h. absurd (omega arith)
-    | suc n ↦ λ g next w le h. v.ends n g next w (omega arith) h
-  ];
-}
-
-where_under : (cause : Cause) (d n : ℕ) (g : Gate) → Where cause (suc d) (suc n) g → Where cause d n g
-where_under no_phrase d n g h = tt
-where_under deeper d n g h = omega arith
-where_under longer d n g h = h
+where_under : (cause : Cause) (d n : ℕ) (g : Gate) (w : List Token) → Where cause (suc d) (suc n) g w → Where cause d n g w
+where_under no_phrase d n g w h = tt
+where_under deeper d n g w h = omega arith
+where_under longer d n g w h = h
 
 pub under_law : {A : Type 0} (S : Token → Type 0) (P : Phrase A) (d : ℕ) (ts : List Token) (r : Read A) → Law S P d ts r → Law S (Under P) (suc d) ts r
 under_law {A} S P d ts (Ok x) l = record {
@@ -256,15 +238,15 @@ under_law {A} S P d ts (Err e) l = record {
   rest = l.rest;
   is = l.is;
   fault = fault_moved l.fault suc
-    (λ d'. elim d' as (λ n. (g : Gate) (next : Next A) (w : List Token) → Where l.fault.cause (suc d) n g → Avoids S next → Heads l.rest w → Under P n g next (l.front ++ w) → ⊥) [
+    (λ d'. elim d' as (λ n. (g : Gate) (next : Next A) (w : List Token) → Where l.fault.cause (suc d) n g w → Avoids S next → Heads l.rest w → Under P n g next (l.front ++ w) → ⊥) [
       | zero ↦ λ g next w where' avoids heads h. h
-      | suc n ↦ λ g next w where' avoids heads h. l.fault.dead n g next w (where_under l.fault.cause d n g where') avoids heads h
+      | suc n ↦ λ g next w where' avoids heads h. l.fault.dead n g next w (where_under l.fault.cause d n g w where') avoids heads h
     ])
     (λ n tail b. under_began P b) (λ tail b. under_began P b);
 }
 
 pub under_reader : {A : Type 0} (S : Token → Type 0) (P : Phrase A) (d : ℕ) (p : List Token → Read A) → Reader S P d p → Reader S (Under P) (suc d) p
-under_reader S P d p r = record { law = λ ts. under_law S P d ts (p ts) (r.law ts); able = under_able P r.able }
+under_reader S P d p r = record { law = λ ts. under_law S P d ts (p ts) (r.law ts); able = under_began P r.able }
 
 -- the same reader, with more tokens that may not follow
 wider_law : {A : Type 0} (S W : Token → Type 0) (P : Phrase A) (d : ℕ) (ts : List Token) (r : Read A) → ((t : Token) → S t → W t) → Law S P d ts r → Law W P d ts r
