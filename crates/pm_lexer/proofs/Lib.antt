@@ -1,5 +1,6 @@
 pub mod Boundary
 pub mod QuoteEnds
+pub mod Furthers
 pub mod Lists
 pub mod Phrases
 pub mod Quotation

@@ -60,7 +60,7 @@ some_after_law {A} {B} {I} S SP P R {d} {ts} x (Err e) t clear l = record {
     (λ tail b. some_after R d l.front tail t.took (omega arith) b);
 }
 
-some_law : {A B I : Type 0} (S SP : Token → Type 0) (P : Phrase A) (R : I → A → Phrase B) (d : ℕ) (ts : List Token) (p : Read A) (q : A × List Token → Read B) → Law SP P d ts p
+pub some_law : {A B I : Type 0} (S SP : Token → Type 0) (P : Phrase A) (R : I → A → Phrase B) (d : ℕ) (ts : List Token) (p : Read A) (q : A × List Token → Read B) → Law SP P d ts p
     → ((a : A) (r : List Token) → p ≡ Ok (a, r) → Law S (Some R a) d r (q (a, r))) → ((a : A) → Able (Some R a) d) → Clear SP S (Some R) → Law S (ThenSome P R) d ts (p >>= q)
 some_law {A} {B} {I} S SP P R d ts (Ok x) q lp lq able clear = some_after_law S SP P R x (q x) lp clear (lq x.0 x.1 refl)
 some_law {A} {B} {I} S SP P R d ts (Err e) q lp lq able clear = record {
@@ -103,7 +103,7 @@ unfolding IsMore
 further_from limit Sep P before d g next ts zero h = inl h
 further_from limit Sep P before d g next ts (suc n) h = inr (n, h)
 
-further_same : {A S : Type 0} (limit : ℕ) (Sep : Phrase S) (P : S → Phrase A) (before : List A) → Same (Or (None before) (ThenSome Sep (Entry limit Sep P before))) (Further limit Sep P before)
+pub further_same : {A S : Type 0} (limit : ℕ) (Sep : Phrase S) (P : S → Phrase A) (before : List A) → Same (Or (None before) (ThenSome Sep (Entry limit Sep P before))) (Further limit Sep P before)
 further_same limit Sep P before = record { to = further_to limit Sep P before; from = λ d g next ts h. further_from limit Sep P before d g next ts h.0 h.1 }
 
 pub further_able : {A S : Type 0} (limit : ℕ) (Sep : Phrase S) (P : S → Phrase A) (before : List A) (d : ℕ) → Able (Further limit Sep P before) d
@@ -111,7 +111,7 @@ unfolding IsMore
 further_able limit Sep P before d = record { more = []; value = before; ends = λ d' g next v le o h. (0, h) }
 
 -- within the limit an entry is as its phrase says
-entry_same : {A S : Type 0} (limit : ℕ) (Sep : Phrase S) (P : S → Phrase A) (before : List A) (s : S) → length before < limit → Same (ThenSome (P s) (More limit Sep P before)) (Some (Entry limit Sep P before) s)
+pub entry_same : {A S : Type 0} (limit : ℕ) (Sep : Phrase S) (P : S → Phrase A) (before : List A) (s : S) → length before < limit → Same (ThenSome (P s) (More limit Sep P before)) (Some (Entry limit Sep P before) s)
 entry_same limit Sep P before s lt = record { to = λ d g next ts h. (h.0, (λ le. absurd (omega arith), h.1)); from = λ d g next ts h. (h.0, h.1.1) }
 
 -- past it one begins where the gate is open
@@ -123,10 +123,10 @@ entry_began limit Sep P before s n tail b = record {
   ends = λ d' g next v le o h. (0, (λ _. o _ (omega arith), b.ends d' g (λ a. More limit Sep P before 0 a d' g next) v le o h));
 }
 
-entry_able : {A S : Type 0} (limit : ℕ) (Sep : Phrase S) (P : S → Phrase A) (before : List A) (s : S) (d : ℕ) → Able (P s) d → Able (Some (Entry limit Sep P before) s) d
+pub entry_able : {A S : Type 0} (limit : ℕ) (Sep : Phrase S) (P : S → Phrase A) (before : List A) (s : S) (d : ℕ) → Able (P s) d → Able (Some (Entry limit Sep P before) s) d
 entry_able limit Sep P before s d able = entry_began limit Sep P before s d [] able
 
-more_clear : {A S : Type 0} (T SP : Token → Type 0) (limit : ℕ) (Sep : Phrase S) (P : S → Phrase A) (before : List A)
+pub more_clear : {A S : Type 0} (T SP : Token → Type 0) (limit : ℕ) (Sep : Phrase S) (P : S → Phrase A) (before : List A)
     → ((t : Token) → SP t → T t) → ((d : ℕ) (g : Gate) (next : Next S) (t : Token) (ts : List Token) → SP t → Sep d g next (t ∷ ts) → ⊥)
     → (n : ℕ) (a : A) (d : ℕ) (g : Gate) (next : Next (List A)) → Avoids T next → (t : Token) (ts : List Token) → SP t → More limit Sep P before n a d g next (t ∷ ts) → ⊥
 unfolding IsMore
@@ -134,7 +134,7 @@ more_clear T SP limit Sep P before within apart zero a d g next avoids t ts s h 
 more_clear T SP limit Sep P before within apart (suc n) a d g next avoids t ts s h = apart d g _ t ts s h
 
 -- an entry past the limit is refused at its first token, and one within it is read
-past_law : {A S : Type 0} (T SP : Token → Type 0) (limit : ℕ) (Sep : Phrase S) (P : S → Phrase A) (before : List A) (s : S) (d : ℕ) (peek : List Token → Read Token)
+pub past_law : {A S : Type 0} (T SP : Token → Type 0) (limit : ℕ) (Sep : Phrase S) (P : S → Phrase A) (before : List A) (s : S) (d : ℕ) (peek : List Token → Read Token)
     → ((t : Token) → SP t → T t) → ((d : ℕ) (g : Gate) (next : Next S) (t : Token) (ts : List Token) → SP t → Sep d g next (t ∷ ts) → ⊥)
     → Peek SP (P s) d peek → Able (P s) d → limit ≤ length before → (ts : List Token) (r : Read Token) → peek ts ≡ r
     → Law T (Some (Entry limit Sep P before) s) d ts (r >>= λ _. Err (too_many (place_of ts)))
