@@ -66,6 +66,15 @@ fn decimals(text: &[u8]) -> usize
     }
 }
 
+/// How many digits stand behind the point of the number that the text begins with.
+pub fn decimals_len(text: &[u8]) -> usize
+    ensures run { result ≡ decimals_len text.now }
+    ensures within { result ≤ length text.now }
+{
+    let (_, rest) = text.split_at(digits_len(text));
+    decimals(rest)
+}
+
 // How many bytes stand before the closing quote.
 fn quotation(quote: u8, text: &[u8]) -> Option<usize>
     ensures closed { result ≡ quotation quote text.now }
@@ -124,8 +133,7 @@ fn number(text: &[u8], at: u64) -> Result<Head, LexBad>
     ensures { result ≡ number_at at text.now }
 {
     let whole = digits_len(text);
-    let (_, rest) = text.split_at(whole);
-    let decimals = decimals(rest);
+    let decimals = decimals_len(text);
     if decimals > 6 || whole > 30 || whole + decimals > 30 {
         return Err(LexBad::LongNumber(at));
     }

@@ -11,6 +11,7 @@ pub mod token;
 pub mod unquote;
 
 pub use fault::LexBad;
+pub use head::decimals_len;
 pub use lexing::lex;
 pub use symbol::Symbol;
 pub use token::{Token, TokenKind, Tokens};

@@ -1,0 +1,14 @@
+//! and else gives the refusal with the least place; `print` gives the canonical text. The grammar is in specs/.
+#![tactic(auto)]
+
+pub mod expressions;
+pub mod fault;
+pub mod numbers;
+pub mod terminals;
+pub mod tree;
+
+pub use fault::SynBad;
+pub use tree::{
+    Atom, ColumnName, ColumnNames, Comparison, Expr, Func, Item, Items, Literal, Literals, OrderItem, OrderItems,
+    PlacedName, Select, SelectItems, Source, Sources, Test, Tests,
+};
