@@ -1,8 +1,11 @@
 //! and else gives the refusal with the least place; `print` gives the canonical text. The grammar is in specs/.
 #![tactic(auto)]
 
+pub mod conditions;
+pub mod entries;
 pub mod expressions;
 pub mod fault;
+pub mod lists;
 pub mod numbers;
 pub mod terminals;
 pub mod tree;
