@@ -70,3 +70,11 @@ pub cond_fails : (peek : List Token → Read Token) (p : List Token → Read Tes
     → Fails e (more_at (is symbol.Or) (token_at (is symbol.Or)) peek (λ _. ands_at peek p) 256 (length r) (a ∷ []) r) → Fails e (cond_at peek p ts)
 unfolding cond_at list_at
 cond_fails peek p ts a r e h f = rw h (bind_fails (more_at (is symbol.Or) (token_at (is symbol.Or)) peek (λ _. ands_at peek p) 256 (length r) (a ∷ []) r) _ e f)
+
+-- the separator failed
+pub sep_fails : {A S : Type 0} (starts : Token → Bool) (sep : List Token → Read S) (peek : List Token → Read Token) (p : S → List Token → Read A) (limit n m : ℕ) (before : List A) (ts : List Token) (e : SynBad)
+    → n ≡ m + 1 → sees starts ts ≡ true → Fails e (sep ts) → Fails e (more_at starts sep peek p limit n before ts)
+sep_fails starts sep peek p limit n m before ts bad.Memory e f h = tt
+sep_fails starts sep peek p limit n m before ts (bad.Expected at) e f h = rw (more_goes starts sep peek p limit n m before ts e f, h) refl
+sep_fails starts sep peek p limit n m before ts (bad.TooDeep at) e f h = rw (more_goes starts sep peek p limit n m before ts e f, h) refl
+sep_fails starts sep peek p limit n m before ts (bad.TooMany at) e f h = rw (more_goes starts sep peek p limit n m before ts e f, h) refl

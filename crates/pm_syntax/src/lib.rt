@@ -7,10 +7,12 @@ pub mod expressions;
 pub mod fault;
 pub mod lists;
 pub mod numbers;
+pub mod statement;
 pub mod terminals;
 pub mod tree;
 
 pub use fault::SynBad;
+pub use statement::parse;
 pub use tree::{
     Atom, ColumnName, ColumnNames, Comparison, Expr, Func, Item, Items, Literal, Literals, OrderItem, OrderItems,
     PlacedName, Select, SelectItems, Source, Sources, Test, Tests,
