@@ -10,7 +10,7 @@ use Rattle.pm_lexer.specs.Pieces.{content_of, decimals_len}
 use Rattle.pm_lexer.specs.Language.{Lang, Gate, Is}
 use Rattle.pm_lexer.specs.Reading.{Read, ◌>>=◌, sees, token_at}
 use Rattle.pm_lexer.proofs.Phrases.{Phrase, Next, Avoids, Heads, Reader, Nothing, NotOther, Able, Began}
-use Rattle.pm_lexer.proofs.Readers.{Then, Or, Same, pure_reader, then_reader, same_reader, map_reader, not_seen}
+use Rattle.pm_lexer.proofs.Readers.{Then, Or, Same, pure_reader, then_reader, same_reader, same_began, map_reader, not_seen}
 use Rattle.pm_lexer.proofs.Furthers.{choice_reader, behind_reader, optional_reader}
 use Rattle.pm_syntax.specs.declared.tree.PlacedName.{PlacedName}
 use Rattle.pm_syntax.specs.declared.tree.ColumnName.{ColumnName}
@@ -25,6 +25,7 @@ use Rattle.pm_syntax.specs.Terminals.{named, func_of, func_of_kind, magnitude}
 use Rattle.pm_syntax.specs.Grammar.{IsName, IsColumn, counts, is_count, IsCountAll, IsCall, IsExpr, IsLiteral, IsTerm, IsOperand}
 use Rattle.pm_syntax.specs.Reading.{name_at, column_behind, column_at, call_behind, expr_behind, expr_at, literal_at, term_at, operand_at, begins_literal, begins_test}
 use Rattle.pm_syntax.proofs.Tokens.{is_symbol, two_symbols, sample, Stands, stands_name, stands_point, stands_open, stands_close, stands_star, stands_minus, stands_number, stands_text, stands_null, symbol_reader, other_symbol}
+use Rattle.pm_syntax.proofs.Helpers.{token_began}
 use Rattle.pm_syntax.proofs.Sets.{AnyOf, FirstIn, Begins, begins_is, widened, not_other, none_other, apart}
 
 pub name_reader : (S : Token → Type 0) (d : ℕ) → Reader S (λ _ _. IsName) d name_at
@@ -190,7 +191,7 @@ TextOr = Or Texts NullOr
 abbrev pub MinusOr : Phrase Literal
 MinusOr = Or TextOr (Then (λ _ _. Is (is symbol.Minus)) (λ _. Negative))
 
-literal_same : Same MinusOr (λ _ _. IsLiteral)
+pub literal_same : Same MinusOr (λ _ _. IsLiteral)
 literal_same = record {
   to = λ d g next ts h. elim h [
     | inl rest ↦ elim rest [ inl text ↦ inr (inr (inl text)) | inr more ↦ elim more [ inl plain ↦ inl plain | inr null ↦ inr (inr (inr null)) ] ]
@@ -285,3 +286,16 @@ operand_begins grouped d g next w h = elim h [
     | inl e ↦ widened (λ t. is symbol.Name t ≡ true) OperandFirst (λ t n. inl n) w (termed_begins grouped d g next w e)
     | inr l ↦ widened LiteralFirst OperandFirst (λ t n. inr n) w (literals_begin d g next w l)
   ]
+
+-- an expression may begin with each name
+pub expr_began : (t : Token) → is symbol.Name t ≡ true → (d : ℕ) → Began (λ _ _. IsExpr) d [] (t ∷ [])
+expr_began t e d =
+    same_began (Then (λ _ _. Is (is symbol.Name)) ExprBehind) (λ _ _. IsExpr) (record { to = expr_to; from = expr_from })
+    (token_began (is symbol.Name) t e d (expr_behind_reader (AnyOf (symbol.Point ∷ symbol.Open ∷ [])) (λ t e. inl e) (λ t e. inr (inl e)) t d).able)
+
+pub column_began : (t : Token) → is symbol.Name t ≡ true → (d : ℕ) → Began (λ _ _. IsColumn) d [] (t ∷ [])
+column_began t e d = record { more = []; value = record { alias = None; name = named t }; ends = λ d' g next v le o h. (e, inl h) }
+
+pub term_began : (grouped : Bool) (t : Token) → is symbol.Name t ≡ true → (d : ℕ) → Began (λ _ _. IsTerm grouped) d [] (t ∷ [])
+term_began true t e d = expr_began t e d
+term_began false t e d = record { more = []; value = expr.Column (record { alias = None; name = named t }); ends = λ d' g next v le o h. (e, inl h) }

@@ -94,3 +94,9 @@ none_other S P F test begins gives [] e d g next (u ∷ us) avoids heads h = abs
 none_other S P F test begins gives (t ∷ ts) e d g next [] avoids heads h = heads
 none_other S P F test begins gives (t ∷ ts) e d g next (u ∷ us) avoids heads h =
     let f : test u ≡ false = rw (sym heads) at e in let i : test u ≡ true = gives u (begins d g next (u ∷ us) h) in cc
+
+-- what follows nothing is not a token that may not follow
+pub none_stops : {A : Type 0} (S : Token → Type 0) (test : Token → Bool) (a : A) → ((t : Token) → test t ≡ true → S t) → (ts : List Token) → sees test ts ≡ true → NotOther S (λ _ _ next. next a) ts
+none_stops S test a inS [] e d g next w avoids heads h = absurd (let bad : false ≡ true = e in cc)
+none_stops S test a inS (t ∷ ts) e d g next [] avoids heads h = heads
+none_stops S test a inS (t ∷ ts) e d g next (u ∷ us) avoids heads h = avoids a u us (inS u (rw (sym heads) at e)) h

@@ -7,6 +7,7 @@ use Rattle.pm_lexer.specs.declared.token.TokenKind.TheVariants as kind
 use Rattle.pm_lexer.specs.declared.symbol.Symbol.{Symbol}
 use Rattle.pm_lexer.specs.declared.symbol.Symbol.TheVariants as symbol
 use Rattle.pm_lexer.specs.Symbol.{symbol_of, same_symbol, is, spelling, reserved_word, canonical_sign}
+use Rattle.pm_syntax.specs.Terminals.{compares}
 use Rattle.pm_lexer.specs.Language.{Lang, Gate, Is}
 use Rattle.pm_lexer.specs.Reading.{Read, ◌>>=◌, sees, token_at}
 use Rattle.pm_lexer.proofs.Phrases.{Phrase, Next, Avoids, Heads, Reader, Nothing, NotOther, Able}
@@ -177,6 +178,10 @@ stands_text = refl
 pub stands_end : Stands symbol.End
 unfolding same_symbol symbol_of reserved_word canonical_sign sample
 stands_end = refl
+
+pub equal_compares : compares (sample symbol.Equal) ≡ true
+unfolding same_symbol symbol_of canonical_sign sample
+equal_compares = refl
 
 -- a reader of a symbol, and then another
 pub symbol_reader : {B : Type 0} (S : Token → Type 0) (s : Symbol) → Stands s → (Q : Token → Phrase B) (d : ℕ) (q : Token × List Token → Read B) → ((t : Token) → Reader S (Q t) d (λ r. q (t, r)))
