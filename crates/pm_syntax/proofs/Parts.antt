@@ -21,7 +21,7 @@ unfolding part_peek
 peek_test zero ts s = rw s refl
 peek_test (suc d) ts s = rw s refl
 
-no_not : (ts : List Token) → sees opens ts ≡ false → sees (is symbol.Not) ts ≡ false
+pub no_not : (ts : List Token) → sees opens ts ≡ false → sees (is symbol.Not) ts ≡ false
 no_not [] s = refl
 no_not (t ∷ ts) s = first (is symbol.Not t) (is symbol.Open t) s
   where
@@ -29,7 +29,7 @@ no_not (t ∷ ts) s = first (is symbol.Not t) (is symbol.Open t) s
     first true b e = e
     first false b e = refl
 
-no_open : (ts : List Token) → sees opens ts ≡ false → sees (is symbol.Open) ts ≡ false
+pub no_open : (ts : List Token) → sees opens ts ≡ false → sees (is symbol.Open) ts ≡ false
 no_open [] s = refl
 no_open (t ∷ ts) s = second (is symbol.Not t) (is symbol.Open t) s
   where
