@@ -165,7 +165,7 @@ expr_reader S point paren d =
     same_reader S (Then (λ _ _. Is (is symbol.Name)) ExprBehind) _ d _ (record { to = expr_to; from = expr_from })
     (symbol_reader S symbol.Name stands_name _ d _ (λ first. expr_behind_reader S point paren first d))
 
-expr_begins : Begins (λ _ _. IsExpr) (λ t. is symbol.Name t ≡ true)
+pub expr_begins : Begins (λ _ _. IsExpr) (λ t. is symbol.Name t ≡ true)
 expr_begins d g next [] h = elim h [ inl c ↦ c | inr o ↦ elim o [ inl a ↦ a | inr c ↦ c ] ]
 expr_begins d g next (t ∷ ts) h = elim h [ inl c ↦ c.0 | inr o ↦ elim o [ inl a ↦ func_is_name t (counts_is_func t a.0) | inr c ↦ func_is_name t c.0 ] ]
 
