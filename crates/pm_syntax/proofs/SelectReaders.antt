@@ -24,7 +24,7 @@ use Rattle.pm_syntax.specs.Terminals.{named}
 use Rattle.pm_syntax.specs.Grammar.{IsName, IsColumn, IsExpr, IsOptional, IsCondition, IsGiven, IsItem, IsItems, IsJoin, IsOn, IsSource, IsSources, IsFilter, IsGroups, IsHaving, IsDirection, IsKey, IsOrders, IsSelect}
 use Rattle.pm_syntax.specs.Reading.{name_at, column_at, expr_at, optional_at, condition_at, given_at, item_at, items_at, joins, join_at, on_at, source_at, sources_at, where_at, having_at, groups_at, direction_at, key_at, orders_at, select_at}
 use Rattle.pm_syntax.proofs.Tokens.{two_symbols, sample, stands_select, stands_distinct, stands_from, stands_join, stands_inner, stands_on, stands_where, stands_group, stands_by, stands_having, stands_order, stands_asc, stands_desc, stands_as, stands_comma, stands_star, stands_semicolon, stands_name, stands_end, symbol_reader}
-use Rattle.pm_syntax.proofs.Sets.{AnyOf, FirstIn, Begins, begins_is, widened, not_other, none_other, none_stops, apart, in_set, within}
+use Rattle.pm_syntax.proofs.Sets.{AnyOf, FirstIn, Begins, begins_is, widened, not_other, none_other, none_stops, apart, in_set, within, disjoint}
 use Rattle.pm_syntax.proofs.Helpers.{maybe_reader, then_peek}
 use Rattle.pm_syntax.proofs.ExprReaders.{name_reader, column_reader, column_began, expr_reader, expr_begins, expr_began}
 use Rattle.pm_syntax.proofs.PartReaders.{Conds, CondEnds, condition_reader}
@@ -373,3 +373,122 @@ orders_reader d =
       list_reader OrderEnds KeyEnds (λ _ _. IsKey) (is symbol.Comma) (sample symbol.Comma) stands_comma (token_at (is symbol.Name)) 64 d key_at (key_reader d) (key_look d)
       (λ t e. inr (inl e)) (λ t s e. apart symbol.Comma (symbol.Point ∷ symbol.Open ∷ symbol.Asc ∷ symbol.Desc ∷ []) refl t e s) (λ t s. inr (inr s))))
     (λ t e. inl e)
+
+-- the rest of a statement, part by part
+abbrev Ending : Select → Phrase Select
+Ending select _ _ next = IsOptional (is symbol.Semicolon) (λ _. Is (is symbol.End) (λ _. next select))
+
+abbrev Ordered : (List OrderItem → Select) → Phrase Select
+Ordered f d g next = IsOrders g (λ orders. Ending (f orders) d g next)
+
+abbrev Having : (Option Test → List OrderItem → Select) → Phrase Select
+Having f d g next = IsHaving d g (λ having. Ordered (f having) d g next)
+
+abbrev Grouped : (List ColumnName → Option Test → List OrderItem → Select) → Phrase Select
+Grouped f d g next = IsGroups g (λ groups. Having (f groups) d g next)
+
+abbrev Filtered : (Option Test → List ColumnName → Option Test → List OrderItem → Select) → Phrase Select
+Filtered f d g next = IsFilter d g (λ filter. Grouped (f filter) d g next)
+
+ending_begins : (s : Select) → Begins (Ending s) (AnyOf (symbol.Semicolon ∷ symbol.End ∷ []))
+ending_begins s d g next [] h = elim h [ inl e ↦ e | inr c ↦ c ]
+ending_begins s d g next (t ∷ ts) h = elim h [ inl e ↦ inr (inl e.0) | inr c ↦ inl c.0 ]
+
+ordered_begins : (f : List OrderItem → Select) → Begins (Ordered f) (AnyOf (symbol.Order ∷ symbol.Semicolon ∷ symbol.End ∷ []))
+ordered_begins f d g next [] h = elim h [ inl e ↦ ending_begins (f []) d g next [] e | inr c ↦ c ]
+ordered_begins f d g next (t ∷ ts) h = elim h [ inl e ↦ inr (ending_begins (f []) d g next (t ∷ ts) e) | inr c ↦ inl c.0 ]
+
+having_begins : (f : Option Test → List OrderItem → Select) → Begins (Having f) (AnyOf (symbol.Having ∷ symbol.Order ∷ symbol.Semicolon ∷ symbol.End ∷ []))
+having_begins f d g next [] h = elim h [ inl e ↦ ordered_begins (f None) d g next [] e | inr c ↦ c ]
+having_begins f d g next (t ∷ ts) h = elim h [ inl e ↦ inr (ordered_begins (f None) d g next (t ∷ ts) e) | inr c ↦ inl c.0 ]
+
+grouped_begins : (f : List ColumnName → Option Test → List OrderItem → Select) → Begins (Grouped f) (AnyOf (symbol.Group ∷ symbol.Having ∷ symbol.Order ∷ symbol.Semicolon ∷ symbol.End ∷ []))
+grouped_begins f d g next [] h = elim h [ inl e ↦ having_begins (f []) d g next [] e | inr c ↦ c ]
+grouped_begins f d g next (t ∷ ts) h = elim h [ inl e ↦ inr (having_begins (f []) d g next (t ∷ ts) e) | inr c ↦ inl c.0 ]
+
+filtered_begins : (f : Option Test → List ColumnName → Option Test → List OrderItem → Select)
+    → Begins (Filtered f) (AnyOf (symbol.Where ∷ symbol.Group ∷ symbol.Having ∷ symbol.Order ∷ symbol.Semicolon ∷ symbol.End ∷ []))
+filtered_begins f d g next [] h = elim h [ inl e ↦ grouped_begins (f None) d g next [] e | inr c ↦ c ]
+filtered_begins f d g next (t ∷ ts) h = elim h [ inl e ↦ inr (grouped_begins (f None) d g next (t ∷ ts) e) | inr c ↦ inl c.0 ]
+
+-- and their readings
+abbrev ending_at : Select → List Token → Read Select
+ending_at s ts = let semicolon = optional_at (is symbol.Semicolon) ts in token_at (is symbol.End) semicolon.1 >>= λ end. Ok (s, end.1)
+
+abbrev ordered_at : (List OrderItem → Select) → List Token → Read Select
+ordered_at f ts = orders_at ts >>= λ orders. ending_at (f orders.0) orders.1
+
+abbrev having_and : ℕ → (Option Test → List OrderItem → Select) → List Token → Read Select
+having_and d f ts = having_at d ts >>= λ having. ordered_at (f having.0) having.1
+
+abbrev grouped_at : ℕ → (List ColumnName → Option Test → List OrderItem → Select) → List Token → Read Select
+grouped_at d f ts = groups_at ts >>= λ groups. having_and d (f groups.0) groups.1
+
+abbrev filtered_at : ℕ → (Option Test → List ColumnName → Option Test → List OrderItem → Select) → List Token → Read Select
+filtered_at d f ts = where_at d ts >>= λ filter. grouped_at d (f filter.0) filter.1
+
+ending_reader : (s : Select) (d : ℕ) → Reader Nothing (Ending s) d (ending_at s)
+unfolding same_symbol
+ending_reader s d =
+    then_reader Nothing (AnyOf (symbol.Semicolon ∷ [])) (λ _ _. IsOptional (is symbol.Semicolon)) (λ _ _ _ next. Is (is symbol.End) (λ _. next s)) d (λ ts. Ok (optional_at (is symbol.Semicolon) ts)) (λ semicolon. token_at (is symbol.End) semicolon.1 >>= λ end. Ok (s, end.1))
+    (maybe_reader (AnyOf (symbol.Semicolon ∷ [])) (is symbol.Semicolon) (sample symbol.Semicolon) stands_semicolon d (λ t e. inl e)) (λ _. symbol_reader Nothing symbol.End stands_end _ d _ (λ _. pure_reader Nothing d s))
+    (λ a d' g next avoids t ts k h. apart symbol.End (symbol.Semicolon ∷ []) refl t h.0 k)
+
+ordered_reader : (f : List OrderItem → Select) (d : ℕ) → Reader Nothing (Ordered f) d (ordered_at f)
+unfolding same_symbol
+ordered_reader f d =
+    then_reader Nothing OrderEnds (λ _ g. IsOrders g) (λ orders. Ending (f orders)) d orders_at (λ orders. ending_at (f orders.0) orders.1) (orders_reader d) (λ orders. ending_reader (f orders) d)
+    (λ a d' g next avoids t ts k h. disjoint (symbol.Order ∷ symbol.Comma ∷ symbol.Point ∷ symbol.Open ∷ symbol.Asc ∷ symbol.Desc ∷ []) (symbol.Semicolon ∷ symbol.End ∷ []) refl t k (ending_begins (f a) d' g next (t ∷ ts) h))
+
+having_and_reader : (f : Option Test → List OrderItem → Select) (d : ℕ) → Reader Nothing (Having f) d (having_and d f)
+unfolding same_symbol
+having_and_reader f d =
+    then_reader Nothing HavingEnds IsHaving (λ having. Ordered (f having)) d (having_at d) (λ having. ordered_at (f having.0) having.1) (having_reader d) (λ having. ordered_reader (f having) d)
+    (λ a d' g next avoids t ts k h. disjoint (symbol.Having ∷ symbol.Point ∷ symbol.Open ∷ symbol.And ∷ symbol.Or ∷ []) (symbol.Order ∷ symbol.Semicolon ∷ symbol.End ∷ []) refl t k (ordered_begins (f a) d' g next (t ∷ ts) h))
+
+grouped_reader : (f : List ColumnName → Option Test → List OrderItem → Select) (d : ℕ) → Reader Nothing (Grouped f) d (grouped_at d f)
+unfolding same_symbol
+grouped_reader f d =
+    then_reader Nothing GroupEnds (λ _ g. IsGroups g) (λ groups. Having (f groups)) d groups_at (λ groups. having_and d (f groups.0) groups.1) (groups_reader d) (λ groups. having_and_reader (f groups) d)
+    (λ a d' g next avoids t ts k h. disjoint (symbol.Group ∷ symbol.Comma ∷ symbol.Point ∷ []) (symbol.Having ∷ symbol.Order ∷ symbol.Semicolon ∷ symbol.End ∷ []) refl t k (having_begins (f a) d' g next (t ∷ ts) h))
+
+filtered_reader : (f : Option Test → List ColumnName → Option Test → List OrderItem → Select) (d : ℕ) → Reader Nothing (Filtered f) d (filtered_at d f)
+unfolding same_symbol
+filtered_reader f d =
+    then_reader Nothing FilterEnds IsFilter (λ filter. Grouped (f filter)) d (where_at d) (λ filter. grouped_at d (f filter.0) filter.1) (filter_reader d) (λ filter. grouped_reader (f filter) d)
+    (λ a d' g next avoids t ts k h. disjoint (symbol.Where ∷ symbol.Point ∷ symbol.Open ∷ symbol.And ∷ symbol.Or ∷ []) (symbol.Group ∷ symbol.Having ∷ symbol.Order ∷ symbol.Semicolon ∷ symbol.End ∷ []) refl t k (grouped_begins (f a) d' g next (t ∷ ts) h))
+
+items_begin : Begins (λ _ g. IsItems g) (AnyOf (symbol.Star ∷ symbol.Name ∷ []))
+items_begin d g next w h = elim h [
+    | inl s ↦ widened (λ t. is symbol.Star t ≡ true) (AnyOf (symbol.Star ∷ symbol.Name ∷ [])) (λ t e. inl e) w (stars_begin d g next w s)
+    | inr l ↦ widened (λ t. is symbol.Name t ≡ true) (AnyOf (symbol.Star ∷ symbol.Name ∷ [])) (λ t e. inr (inl e)) w (listed_begins d g next w l)
+  ]
+
+-- select = SELECT [ DISTINCT ] items FROM sources ..
+abbrev made : Option Token → Items → List Source → Option Test → List ColumnName → Option Test → List OrderItem → Select
+made distinct items sources filter groups having orders = record { distinct = is_some distinct; items = items; sources = sources; filter = filter; groups = groups; having = having; orders = orders }
+
+abbrev after_items : Option Token → Items → Phrase Select
+after_items distinct items d g next = Is (is symbol.From) (λ _. IsSources d g (λ sources. Filtered (made distinct items sources) d g next))
+
+abbrev after_items_at : ℕ → Option Token → Items × List Token → Read Select
+after_items_at d distinct items = token_at (is symbol.From) items.1 >>= λ from. sources_at d from.1 >>= λ sources. filtered_at d (made distinct items.0 sources.0) sources.1
+
+abbrev after_distinct : Option Token → Phrase Select
+after_distinct distinct d g next = IsItems g (λ items. after_items distinct items d g next)
+
+abbrev after_distinct_at : ℕ → Option Token × List Token → Read Select
+after_distinct_at d distinct = items_at distinct.1 >>= λ items. after_items_at d distinct.0 items
+
+pub select_reader : (d : ℕ) → Reader Nothing IsSelect d (select_at d)
+unfolding select_at same_symbol
+select_reader d =
+    symbol_reader Nothing symbol.Select stands_select _ d _ (λ _.
+    then_reader Nothing (AnyOf (symbol.Distinct ∷ [])) (λ _ _. IsOptional (is symbol.Distinct)) after_distinct d (λ ts. Ok (optional_at (is symbol.Distinct) ts)) (after_distinct_at d)
+    (maybe_reader (AnyOf (symbol.Distinct ∷ [])) (is symbol.Distinct) (sample symbol.Distinct) stands_distinct d (λ t e. inl e))
+    (λ distinct. then_reader Nothing ItemsEnds (λ _ g. IsItems g) (after_items distinct) d items_at (after_items_at d distinct) (items_reader d)
+      (λ items. symbol_reader Nothing symbol.From stands_from _ d _ (λ _.
+        then_reader Nothing SourcesEnds IsSources (λ sources. Filtered (made distinct items sources)) d (sources_at d) (λ sources. filtered_at d (made distinct items sources.0) sources.1) (sources_reader d) (λ sources. filtered_reader (made distinct items sources) d)
+        (λ a d' g next avoids t ts k h. disjoint sources_ends (symbol.Where ∷ symbol.Group ∷ symbol.Having ∷ symbol.Order ∷ symbol.Semicolon ∷ symbol.End ∷ []) refl t k (filtered_begins (made distinct items a) d' g next (t ∷ ts) h))))
+      (λ a d' g next avoids t ts k h. apart symbol.From (symbol.Point ∷ symbol.Open ∷ symbol.Name ∷ symbol.As ∷ symbol.Comma ∷ []) refl t h.0 k))
+    (λ a d' g next avoids t ts k h. disjoint (symbol.Distinct ∷ []) (symbol.Star ∷ symbol.Name ∷ []) refl t k (items_begin d' g (λ items. after_items a items d' g next) (t ∷ ts) h)))

@@ -1,5 +1,5 @@
 -- Sets of symbols, and what a phrase begins with.
-use Rattle.std.proofs.Common.{◌≡◌, ◌⊎◌, ℕ, Bool, true, false, List, [], ◌∷◌, ◌++◌, refl, sym, ◌∙◌, inl, inr, ◌||◌, ◌&&◌, rules}
+use Rattle.std.proofs.Common.{if◌then◌else◌, ◌≡◌, ◌⊎◌, ℕ, Bool, true, false, List, [], ◌∷◌, ◌++◌, refl, sym, ◌∙◌, inl, inr, ◌||◌, ◌&&◌, rules}
 use Rattle.std.specs.List.{list_all}
 use denote.Enum.Bare.{same_true, same_false}
 use Rattle.pm_lexer.specs.contracts.symbol.Symbol.{the_type}
@@ -100,3 +100,16 @@ pub none_stops : {A : Type 0} (S : Token → Type 0) (test : Token → Bool) (a 
 none_stops S test a inS [] e d g next w avoids heads h = absurd (let bad : false ≡ true = e in cc)
 none_stops S test a inS (t ∷ ts) e d g next [] avoids heads h = heads
 none_stops S test a inS (t ∷ ts) e d g next (u ∷ us) avoids heads h = avoids a u us (inS u (rw (sym heads) at e)) h
+
+-- two sets without a common symbol
+abbrev pub separate : List Symbol → List Symbol → Bool
+separate [] ys = true
+separate (x ∷ xs) ys = (if member x ys then false else true) && separate xs ys
+
+pub disjoint : (xs ys : List Symbol) → separate xs ys ≡ true → (t : Token) → AnyOf xs t → AnyOf ys t → ⊥
+disjoint [] ys m t h k = h
+disjoint (x ∷ xs) ys m t h k =
+    elim (member x ys) as (λ b. member x ys ≡ b → ((if b then false else true) && separate xs ys) ≡ true → ⊥) [
+      | true ↦ λ f m. cc m
+      | false ↦ λ f m. elim h [ inl e ↦ apart x ys f t e k | inr more ↦ disjoint xs ys m t more k ]
+    ] refl m
