@@ -91,12 +91,12 @@ call_reader : (S : Token → Type 0) (f : Token) (d : ℕ) → Reader S (CallBeh
 unfolding call_behind same_symbol
 call_reader S f d =
     elim (counts f) as (λ b. counts f ≡ b → Reader S (λ d g next ts. CallsColumn f d g next ts ⊎ ((b ≡ true) × CountsAll f d g next ts)) d (λ ts.
-      if b && sees (is symbol.Star) ts then (token_at (is symbol.Close) (drop 1 ts) >>= λ close. Ok (expr.CountAll f.at, close.1))
-      else (column_at ts >>= λ column. token_at (is symbol.Close) column.1 >>= λ close. Ok (expr.Call (unwrap_or (func_of f) func.Count) column.0 f.at, close.1)))) [
+    if b && sees (is symbol.Star) ts then (token_at (is symbol.Close) (drop 1 ts) >>= λ close. Ok (expr.CountAll f.at, close.1))
+    else (column_at ts >>= λ column. token_at (is symbol.Close) column.1 >>= λ close. Ok (expr.Call (unwrap_or (func_of f) func.Count) column.0 f.at, close.1)))) [
       | true ↦ λ _. same_reader S (Or (CallsColumn f) (CountsAll f)) _ d _ (record { to = λ d g next ts h. elim h [ inl c ↦ inl c | inr a ↦ inr (refl, a) ]; from = λ d g next ts h. elim h [ inl c ↦ inl c | inr a ↦ inr a.1 ] })
-        (behind_reader S (is symbol.Star) (sample symbol.Star) stands_star (λ _ _ next. Is (is symbol.Close) (λ _. next (expr.CountAll f.at))) (CallsColumn f) d _ _
-        (symbol_reader S symbol.Close stands_close _ d _ (λ _. pure_reader S d (expr.CountAll f.at))) (calls_column_reader S f d)
-        (not_other S (CallsColumn f) (λ t. is symbol.Name t ≡ true) (is symbol.Star) (calls_begins f) (λ t e n. two_symbols symbol.Star symbol.Name t refl e n)))
+          (behind_reader S (is symbol.Star) (sample symbol.Star) stands_star (λ _ _ next. Is (is symbol.Close) (λ _. next (expr.CountAll f.at))) (CallsColumn f) d _ _
+          (symbol_reader S symbol.Close stands_close _ d _ (λ _. pure_reader S d (expr.CountAll f.at))) (calls_column_reader S f d)
+          (not_other S (CallsColumn f) (λ t. is symbol.Name t ≡ true) (is symbol.Star) (calls_begins f) (λ t e n. two_symbols symbol.Star symbol.Name t refl e n)))
       | false ↦ λ _. same_reader S (CallsColumn f) _ d _ (record { to = λ d g next ts h. inl h; from = λ d g next ts h. elim h [ inl c ↦ c | inr a ↦ absurd (cc a.0) ] }) (calls_column_reader S f d)
     ] refl
 
@@ -114,11 +114,11 @@ expr_behind_reader : (S : Token → Type 0) → ((t : Token) → is symbol.Point
 unfolding expr_behind same_symbol
 expr_behind_reader S point paren first d =
     let columns : Reader S (Columned first) d (λ ts. column_behind (named first) ts >>= λ column. Ok (expr.Column column.0, column.1)) =
-      map_reader S (ColumnBehind (named first)) (λ column. expr.Column column) d _ (column_behind_reader S point (named first) d) in
+    map_reader S (ColumnBehind (named first)) (λ column. expr.Column column) d _ (column_behind_reader S point (named first) d) in
     elim (is_some (func_of first)) as (λ b. is_some (func_of first) ≡ b → Reader S (λ d g next ts. Columned first d g next ts ⊎ ((b ≡ true) × Called first d g next ts)) d (λ ts.
-      if b && sees (is symbol.Open) ts then call_behind first (drop 1 ts) else (column_behind (named first) ts >>= λ column. Ok (expr.Column column.0, column.1)))) [
+    if b && sees (is symbol.Open) ts then call_behind first (drop 1 ts) else (column_behind (named first) ts >>= λ column. Ok (expr.Column column.0, column.1)))) [
       | true ↦ λ _. same_reader S (Or (Columned first) (Called first)) _ d _ (record { to = λ d g next ts h. elim h [ inl c ↦ inl c | inr a ↦ inr (refl, a) ]; from = λ d g next ts h. elim h [ inl c ↦ inl c | inr a ↦ inr a.1 ] })
-        (behind_reader S (is symbol.Open) (sample symbol.Open) stands_open (CallBehind first) (Columned first) d _ _ (call_reader S first d) columns (λ ts e d' g next w avoids heads h. column_stops ts e d' g next w avoids heads h))
+          (behind_reader S (is symbol.Open) (sample symbol.Open) stands_open (CallBehind first) (Columned first) d _ _ (call_reader S first d) columns (λ ts e d' g next w avoids heads h. column_stops ts e d' g next w avoids heads h))
       | false ↦ λ _. same_reader S (Columned first) _ d _ (record { to = λ d g next ts h. inl h; from = λ d g next ts h. elim h [ inl c ↦ c | inr a ↦ absurd (cc a.0) ] }) columns
     ] refl
   where
@@ -133,9 +133,9 @@ expr_behind_reader S point paren first d =
 expr_to : (d : ℕ) (g : Gate) (next : Next Expr) (ts : List Token) → Then (λ _ _. Is (is symbol.Name)) ExprBehind d g next ts → IsExpr next ts
 expr_to d g next [] h = absurd h
 expr_to d g next (t ∷ ts) h = elim h.1 [
-    | inl column ↦ inl (h.0, column)
-    | inr call ↦ inr (called ts call.0 call.1)
-  ]
+  | inl column ↦ inl (h.0, column)
+  | inr call ↦ inr (called ts call.0 call.1)
+]
   where
     called : (us : List Token) → is_some (func_of t) ≡ true → Called t d g next us → IsCountAll next (t ∷ us) ⊎ IsCall next (t ∷ us)
     called [] f c = absurd c
@@ -144,12 +144,12 @@ expr_to d g next (t ∷ ts) h = elim h.1 [
 expr_from : (d : ℕ) (g : Gate) (next : Next Expr) (ts : List Token) → IsExpr next ts → Then (λ _ _. Is (is symbol.Name)) ExprBehind d g next ts
 expr_from d g next [] h = elim h [ inl c ↦ c | inr o ↦ elim o [ inl a ↦ a | inr c ↦ c ] ]
 expr_from d g next (t ∷ ts) h = elim h [
-    | inl c ↦ (c.0, inl c.1)
-    | inr o ↦ elim o [
-      | inl a ↦ (func_is_name t (counts_is_func t a.0), inr (counts_is_func t a.0, all ts a.0 a.1))
-      | inr c ↦ (func_is_name t c.0, inr (c.0, one ts c.1))
-    ]
+  | inl c ↦ (c.0, inl c.1)
+  | inr o ↦ elim o [
+    | inl a ↦ (func_is_name t (counts_is_func t a.0), inr (counts_is_func t a.0, all ts a.0 a.1))
+    | inr c ↦ (func_is_name t c.0, inr (c.0, one ts c.1))
   ]
+]
   where
     all : (us : List Token) → counts t ≡ true → Is (is symbol.Open) (λ _. CountsAll t d g next) us → Called t d g next us
     all [] f c = absurd c
@@ -231,16 +231,16 @@ pub literal_reader : (S : Token → Type 0) (d : ℕ) → Reader S (λ _ _. IsLi
 unfolding literal_at same_symbol
 literal_reader S d =
     let plain : Reader S Plain d (λ ts. token_at (is symbol.Number) ts >>= λ n. Ok (literal.Number (pos (magnitude n.0)) (decimals_len n.0.slice), n.1)) =
-      symbol_reader S symbol.Number stands_number _ d _ (λ n. pure_reader S d (literal.Number (pos (magnitude n)) (decimals_len n.slice))) in
+    symbol_reader S symbol.Number stands_number _ d _ (λ n. pure_reader S d (literal.Number (pos (magnitude n)) (decimals_len n.slice))) in
     let negative : Reader S Negative d (λ ts. token_at (is symbol.Number) ts >>= λ n. Ok (literal.Number (neg_ℤ (pos (magnitude n.0))) (decimals_len n.0.slice), n.1)) =
-      symbol_reader S symbol.Number stands_number _ d _ (λ n. pure_reader S d (literal.Number (neg_ℤ (pos (magnitude n))) (decimals_len n.slice))) in
+    symbol_reader S symbol.Number stands_number _ d _ (λ n. pure_reader S d (literal.Number (neg_ℤ (pos (magnitude n))) (decimals_len n.slice))) in
     let texts : Reader S Texts d (λ ts. token_at (is symbol.Text) ts >>= λ text. Ok (literal.Text (content_of text.0), text.1)) =
-      symbol_reader S symbol.Text stands_text _ d _ (λ text. pure_reader S d (literal.Text (content_of text))) in
+    symbol_reader S symbol.Text stands_text _ d _ (λ text. pure_reader S d (literal.Text (content_of text))) in
     let null_or = behind_reader S (is symbol.Null) (sample symbol.Null) stands_null Nulls Plain d (λ r. Ok (literal.Null, r)) _ (pure_reader S d literal.Null) plain
-      (not_other S Plain (AnyOf (symbol.Number ∷ [])) (is symbol.Null) plain_begins (λ t e h. apart symbol.Null (symbol.Number ∷ []) refl t e h)) in
+    (not_other S Plain (AnyOf (symbol.Number ∷ [])) (is symbol.Null) plain_begins (λ t e h. apart symbol.Null (symbol.Number ∷ []) refl t e h)) in
     let text_or = choice_reader S Texts NullOr (is symbol.Text) d _ _ texts null_or
-      (not_other S NullOr (AnyOf (symbol.Number ∷ symbol.Null ∷ [])) (is symbol.Text) null_or_begins (λ t e h. apart symbol.Text (symbol.Number ∷ symbol.Null ∷ []) refl t e h))
-      (none_other S Texts (AnyOf (symbol.Text ∷ [])) (is symbol.Text) texts_begins (λ t h. elim h [ inl e ↦ e | inr none ↦ absurd none ])) in
+    (not_other S NullOr (AnyOf (symbol.Number ∷ symbol.Null ∷ [])) (is symbol.Text) null_or_begins (λ t e h. apart symbol.Text (symbol.Number ∷ symbol.Null ∷ []) refl t e h))
+    (none_other S Texts (AnyOf (symbol.Text ∷ [])) (is symbol.Text) texts_begins (λ t h. elim h [ inl e ↦ e | inr none ↦ absurd none ])) in
     same_reader S MinusOr (λ _ _. IsLiteral) d _ literal_same
     (behind_reader S (is symbol.Minus) (sample symbol.Minus) stands_minus Negative TextOr d _ _ negative text_or
     (not_other S TextOr (AnyOf (symbol.Text ∷ symbol.Number ∷ symbol.Null ∷ [])) (is symbol.Minus) text_or_begins (λ t e h. apart symbol.Minus (symbol.Text ∷ symbol.Number ∷ symbol.Null ∷ []) refl t e h)))
@@ -283,9 +283,9 @@ OperandFirst = AnyOf (symbol.Name ∷ symbol.Minus ∷ symbol.Text ∷ symbol.Nu
 
 pub operand_begins : (grouped : Bool) → Begins (λ _ _. IsOperand grouped) OperandFirst
 operand_begins grouped d g next w h = elim h [
-    | inl e ↦ widened (λ t. is symbol.Name t ≡ true) OperandFirst (λ t n. inl n) w (termed_begins grouped d g next w e)
-    | inr l ↦ widened LiteralFirst OperandFirst (λ t n. inr n) w (literals_begin d g next w l)
-  ]
+  | inl e ↦ widened (λ t. is symbol.Name t ≡ true) OperandFirst (λ t n. inl n) w (termed_begins grouped d g next w e)
+  | inr l ↦ widened LiteralFirst OperandFirst (λ t n. inr n) w (literals_begin d g next w l)
+]
 
 -- an expression may begin with each name
 pub expr_began : (t : Token) → is symbol.Name t ≡ true → (d : ℕ) → Began (λ _ _. IsExpr) d [] (t ∷ [])

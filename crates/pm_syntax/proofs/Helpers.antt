@@ -50,15 +50,15 @@ token_began {B} {Q} test t e d q = record {
 pub then_peek : {A B : Type 0} (S SP : Token → Type 0) (P : Phrase A) (Q : A → Phrase B) (d : ℕ) (peek : List Token → Read Token) → Peek SP P d peek → ((a : A) → Able (Q a) d) → Clear SP S Q → Peek S (Then P Q) d peek
 then_peek {A} {B} S SP P Q d peek look able clear = record {
   stops = λ ts e is. let f = look.stops ts e is in fault_moved f (λ n. d + n)
-    (λ d' g next w where' avoids heads h. f.dead d' g (λ a. Q a d' g next) w where' (λ a t us s n. clear a d' g next avoids t us s n) heads h)
-    (λ n tail b. then_began (λ a. weaker_began (d + n) (omega arith) (able a)) (weaker_began (d + n) (omega arith) b))
-    (λ tail b. then_began able b);
+      (λ d' g next w where' avoids heads h. f.dead d' g (λ a. Q a d' g next) w where' (λ a t us s n. clear a d' g next avoids t us s n) heads h)
+      (λ n tail b. then_began (λ a. weaker_began (d + n) (omega arith) (able a)) (weaker_began (d + n) (omega arith) b))
+      (λ tail b. then_began able b);
   goes = λ ts x is. moved (λ tail b. then_began able b) (look.goes ts x is);
 }
 
 pub same_peek : {A : Type 0} (S : Token → Type 0) (P Q : Phrase A) (d : ℕ) (peek : List Token → Read Token) → Same P Q → Peek S P d peek → Peek S Q d peek
 same_peek S P Q d peek same look = record {
   stops = λ ts e is. let f = look.stops ts e is in fault_moved f (λ n. n) (λ d' g next w where' avoids heads h. f.dead d' g next w where' avoids heads (same.from d' g next w h))
-    (λ n tail b. same_began P Q same b) (λ tail b. same_began P Q same b);
+      (λ n tail b. same_began P Q same b) (λ tail b. same_began P Q same b);
   goes = λ ts x is. moved (λ tail b. same_began P Q same b) (look.goes ts x is);
 }

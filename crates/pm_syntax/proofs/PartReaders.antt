@@ -98,15 +98,15 @@ opens_began grouped d t o =
     same_began (PartOr grouped) (Part grouped) (part_same grouped) (elim (either (is symbol.Not t) (is symbol.Open t) o) [
       | inl n ↦ second_began (ParenOr grouped) (Then (λ _ _. Is (is symbol.Not)) (λ _. Under (NotPart grouped))) (token_began {Q = λ _. Under (NotPart grouped)} (is symbol.Not) t n (suc d) (under_began (NotPart grouped) (not_able grouped d)))
       | inr p ↦ first_began (ParenOr grouped) (Then (λ _ _. Is (is symbol.Not)) (λ _. Under (NotPart grouped)))
-        (second_began (Tests grouped) (Then (λ _ _. Is (is symbol.Open)) (λ _. Under (Inner grouped))) (token_began {Q = λ _. Under (Inner grouped)} (is symbol.Open) t p (suc d) (under_began (Inner grouped) (inner_able grouped d))))
+          (second_began (Tests grouped) (Then (λ _ _. Is (is symbol.Open)) (λ _. Under (Inner grouped))) (token_began {Q = λ _. Under (Inner grouped)} (is symbol.Open) t p (suc d) (under_began (Inner grouped) (inner_able grouped d))))
     ])
 
 no_operand : (t : Token) → opens t ≡ true → OperandFirst t → ⊥
 unfolding same_symbol
 no_operand t o h = elim (either (is symbol.Not t) (is symbol.Open t) o) [
-    | inl n ↦ apart symbol.Not (symbol.Name ∷ symbol.Minus ∷ symbol.Text ∷ symbol.Null ∷ symbol.Number ∷ []) refl t n h
-    | inr p ↦ apart symbol.Open (symbol.Name ∷ symbol.Minus ∷ symbol.Text ∷ symbol.Null ∷ symbol.Number ∷ []) refl t p h
-  ]
+  | inl n ↦ apart symbol.Not (symbol.Name ∷ symbol.Minus ∷ symbol.Text ∷ symbol.Null ∷ symbol.Number ∷ []) refl t n h
+  | inr p ↦ apart symbol.Open (symbol.Name ∷ symbol.Minus ∷ symbol.Text ∷ symbol.Null ∷ symbol.Number ∷ []) refl t p h
+]
 
 no_test : (S : Token → Type 0) (grouped : Bool) (ts : List Token) → sees opens ts ≡ true → NotOther S (Tests grouped) ts
 no_test S grouped ts e = not_other S (Tests grouped) OperandFirst opens (test_begins grouped) no_operand ts e
@@ -142,16 +142,16 @@ token_err test [] e is = (refl, err_same is)
     err_same : {a b : Stop} → (let r : Read Token = Err a in r) ≡ Err b → a ≡ b
     err_same i = cc i
 token_err test (t ∷ ts) e is = elim (test t) as (λ b. (let r : Read Token = if b then Ok (t, ts) else Err (expected t.at) in r) ≡ Err e → (b ≡ false) × (expected t.at ≡ e)) [
-    | true ↦ λ i. absurd (let bad : Ok (t, ts) ≡ Err e = i in cc)
-    | false ↦ λ i. (refl, cc i)
-  ] is
+  | true ↦ λ i. absurd (let bad : Ok (t, ts) ≡ Err e = i in cc)
+  | false ↦ λ i. (refl, cc i)
+] is
 
 token_ok : (test : Token → Bool) (ts : List Token) (x : Token × List Token) → token_at test ts ≡ Ok x → (t : Token) × (others : List Token) × (ts ≡ t ∷ others) × (test t ≡ true)
 token_ok test [] x is = absurd (let bad : Err (expected 0) ≡ Ok x = is in cc)
 token_ok test (t ∷ ts) x is = elim (test t) as (λ b. test t ≡ b → (let r : Read Token = if b then Ok (t, ts) else Err (expected t.at) in r) ≡ Ok x → (u : Token) × (others : List Token) × (t ∷ ts ≡ u ∷ others) × (test u ≡ true)) [
-    | true ↦ λ e i. (t, ts, refl, e)
-    | false ↦ λ e i. absurd (let bad : Err (expected t.at) ≡ Ok x = i in cc)
-  ] refl is
+  | true ↦ λ e i. (t, ts, refl, e)
+  | false ↦ λ e i. absurd (let bad : Err (expected t.at) ≡ Ok x = i in cc)
+] refl is
 
 opens_ok : (ts : List Token) → sees opens ts ≡ true → (e : Stop) → token_at opens ts ≡ Err e → ⊥
 opens_ok ts o e is = let f = token_err opens ts e is in let bad : true ≡ false = sym o ∙ f.0 in cc
@@ -159,13 +159,13 @@ opens_ok ts o e is = let f = token_err opens ts e is in let bad : true ≡ false
 peek_stops : (S : Token → Type 0) (grouped : Bool) (d : ℕ) (ts : List Token) (e : Stop) → part_peek d ts ≡ Err e → Fault S (Part grouped) d [] ts e
 unfolding part_peek
 peek_stops S grouped zero ts e is = elim (sees opens ts) as (λ b. sees opens ts ≡ b → (let r : Read Token = if b then Err (too_deep (place_of ts)) else token_at begins_test ts in r) ≡ Err e → Fault S (Part grouped) zero [] ts e) [
-    | true ↦ λ o i. let same : too_deep (place_of ts) ≡ e = cc i in rw (← same) (deep_fault S grouped ts o)
-    | false ↦ λ o i. let (b, same) = token_err begins_test ts e i in rw (← same) (first_fault S (Part grouped) zero ts (part_none S grouped ts o b) (part_able grouped zero))
-  ] refl is
+  | true ↦ λ o i. let same : too_deep (place_of ts) ≡ e = cc i in rw (← same) (deep_fault S grouped ts o)
+  | false ↦ λ o i. let (b, same) = token_err begins_test ts e i in rw (← same) (first_fault S (Part grouped) zero ts (part_none S grouped ts o b) (part_able grouped zero))
+] refl is
 peek_stops S grouped (suc d) ts e is = elim (sees opens ts) as (λ b. sees opens ts ≡ b → (let r : Read Token = if b then token_at opens ts else token_at begins_test ts in r) ≡ Err e → Fault S (Part grouped) (suc d) [] ts e) [
-    | true ↦ λ o i. absurd (opens_ok ts o e i)
-    | false ↦ λ o i. let (b, same) = token_err begins_test ts e i in rw (← same) (first_fault S (Part grouped) (suc d) ts (part_none S grouped ts o b) (part_able grouped (suc d)))
-  ] refl is
+  | true ↦ λ o i. absurd (opens_ok ts o e i)
+  | false ↦ λ o i. let (b, same) = token_err begins_test ts e i in rw (← same) (first_fault S (Part grouped) (suc d) ts (part_none S grouped ts o b) (part_able grouped (suc d)))
+] refl is
 
 test_goes : (grouped : Bool) (d : ℕ) (ts : List Token) (x : Token × List Token) → token_at begins_test ts ≡ Ok x → GoesOn (Part grouped) [] ts d
 test_goes grouped d ts x is =
@@ -175,13 +175,13 @@ test_goes grouped d ts x is =
 peek_goes : (grouped : Bool) (d : ℕ) (ts : List Token) (x : Token × List Token) → part_peek d ts ≡ Ok x → GoesOn (Part grouped) [] ts d
 unfolding part_peek
 peek_goes grouped zero ts x is = elim (sees opens ts) as (λ b. (let r : Read Token = if b then Err (too_deep (place_of ts)) else token_at begins_test ts in r) ≡ Ok x → GoesOn (Part grouped) [] ts zero) [
-    | true ↦ λ i. absurd (let bad : Err (too_deep (place_of ts)) ≡ Ok x = i in cc)
-    | false ↦ λ i. test_goes grouped zero ts x i
-  ] is
+  | true ↦ λ i. absurd (let bad : Err (too_deep (place_of ts)) ≡ Ok x = i in cc)
+  | false ↦ λ i. test_goes grouped zero ts x i
+] is
 peek_goes grouped (suc d) ts x is = elim (sees opens ts) as (λ b. (let r : Read Token = if b then token_at opens ts else token_at begins_test ts in r) ≡ Ok x → GoesOn (Part grouped) [] ts (suc d)) [
-    | true ↦ λ i. let (t, others, parts, e) = token_ok opens ts x i in record { token = t; others = others; is = parts; began = opens_began grouped d t e }
-    | false ↦ λ i. test_goes grouped (suc d) ts x i
-  ] is
+  | true ↦ λ i. let (t, others, parts, e) = token_ok opens ts x i in record { token = t; others = others; is = parts; began = opens_began grouped d t e }
+  | false ↦ λ i. test_goes grouped (suc d) ts x i
+] is
 
 part_look : (S : Token → Type 0) (grouped : Bool) (d : ℕ) → Peek S (Part grouped) d (part_peek d)
 part_look S grouped d = record { stops = peek_stops S grouped d; goes = peek_goes grouped d }
@@ -250,9 +250,9 @@ part_reader grouped zero = record {
   law = λ ts. elim (sees opens ts) as (λ b. sees opens ts ≡ b → Law OperandEnds (Part grouped) zero ts (if b then Err (too_deep (place_of ts)) else test_at grouped ts)) [
     | true ↦ λ e. record { front = []; rest = ts; is = refl; fault = deep_fault OperandEnds grouped ts e }
     | false ↦ λ e. same_law OperandEnds (PartOr grouped) (Part grouped) zero ts (test_at grouped ts) (part_same grouped)
-      (first_law OperandEnds (ParenOr grouped) (Then (λ _ _. Is (is symbol.Not)) (λ _. Under (NotPart grouped))) zero ts (test_at grouped ts) (λ d' g next w avoids heads h. not_seen (is symbol.Not) ts w _ (no_not ts e) heads h)
-      (first_law OperandEnds (Tests grouped) (Then (λ _ _. Is (is symbol.Open)) (λ _. Under (Inner grouped))) zero ts (test_at grouped ts) (λ d' g next w avoids heads h. not_seen (is symbol.Open) ts w _ (no_open ts e) heads h)
-      ((test_reader OperandEnds (λ t e. e) grouped zero).law ts)))
+        (first_law OperandEnds (ParenOr grouped) (Then (λ _ _. Is (is symbol.Not)) (λ _. Under (NotPart grouped))) zero ts (test_at grouped ts) (λ d' g next w avoids heads h. not_seen (is symbol.Not) ts w _ (no_not ts e) heads h)
+        (first_law OperandEnds (Tests grouped) (Then (λ _ _. Is (is symbol.Open)) (λ _. Under (Inner grouped))) zero ts (test_at grouped ts) (λ d' g next w avoids heads h. not_seen (is symbol.Open) ts w _ (no_open ts e) heads h)
+        ((test_reader OperandEnds (λ t e. e) grouped zero).law ts)))
   ] refl;
   able = part_able grouped zero;
 }

@@ -120,9 +120,9 @@ items_reader d =
     choice_reader ItemsEnds Stars Listed (is symbol.Star) d _ _
     (symbol_reader ItemsEnds symbol.Star stands_star _ d _ (λ star. pure_reader ItemsEnds d (items.All star.at)))
     (map_reader ItemsEnds (λ d g. IsList g 64 IsItem (is symbol.Comma)) (λ list. items.List list) d _
-      (list_reader ItemsEnds ItemEnds (λ _ _. IsItem) (is symbol.Comma) (sample symbol.Comma) stands_comma (token_at (is symbol.Name)) 64 d item_at (item_reader d) (item_look d)
-      (λ t e. inr (inr (inr (inr (inl e))))) (λ t s e. apart symbol.Comma (symbol.Point ∷ symbol.Open ∷ symbol.Name ∷ symbol.As ∷ []) refl t e s)
-      (λ t s. within (symbol.Point ∷ symbol.Open ∷ symbol.Name ∷ symbol.As ∷ []) (symbol.Point ∷ symbol.Open ∷ symbol.Name ∷ symbol.As ∷ symbol.Comma ∷ []) refl t s)))
+    (list_reader ItemsEnds ItemEnds (λ _ _. IsItem) (is symbol.Comma) (sample symbol.Comma) stands_comma (token_at (is symbol.Name)) 64 d item_at (item_reader d) (item_look d)
+    (λ t e. inr (inr (inr (inr (inl e))))) (λ t s e. apart symbol.Comma (symbol.Point ∷ symbol.Open ∷ symbol.Name ∷ symbol.As ∷ []) refl t e s)
+    (λ t s. within (symbol.Point ∷ symbol.Open ∷ symbol.Name ∷ symbol.As ∷ []) (symbol.Point ∷ symbol.Open ∷ symbol.Name ∷ symbol.As ∷ symbol.Comma ∷ []) refl t s)))
     (not_other ItemsEnds Listed (λ t. is symbol.Name t ≡ true) (is symbol.Star) listed_begins (λ t e n. two_symbols symbol.Star symbol.Name t refl e n))
     (none_other ItemsEnds Stars (λ t. is symbol.Star t ≡ true) (is symbol.Star) stars_begin (λ t e. e))
 
@@ -169,9 +169,9 @@ either false b e = inr e
 
 joins_first : (t : Token) → AnyOf (symbol.Comma ∷ symbol.Join ∷ symbol.Inner ∷ []) t → joins t ≡ true
 joins_first t h = elim h [
-    | inl c ↦ rw c refl
-    | inr o ↦ elim o [ inl j ↦ rw (j, or_true (is symbol.Comma t)) refl | inr p ↦ elim p [ inl i ↦ rw (i, or_true (is symbol.Comma t || is symbol.Join t)) refl | inr none ↦ absurd none ] ]
-  ]
+  | inl c ↦ rw c refl
+  | inr o ↦ elim o [ inl j ↦ rw (j, or_true (is symbol.Comma t)) refl | inr p ↦ elim p [ inl i ↦ rw (i, or_true (is symbol.Comma t || is symbol.Join t)) refl | inr none ↦ absurd none ] ]
+]
 
 first_joins : (t : Token) → joins t ≡ true → AnyOf (symbol.Comma ∷ symbol.Join ∷ symbol.Inner ∷ []) t
 first_joins t e = elim (either (is symbol.Comma t || is symbol.Join t) (is symbol.Inner t) e) [ inr i ↦ inr (inr (inl i)) | inl o ↦ elim (either (is symbol.Comma t) (is symbol.Join t) o) [ inl c ↦ inl c | inr j ↦ inr (inl j) ] ]
@@ -209,8 +209,8 @@ unfolding source_at same_symbol
 source_reader joined d =
     then_reader SourceEnds Nothing (λ _ _. IsName) (λ table d g next. IsGiven (λ alias. IsOn d g joined (λ on. next (record { table = table; alias = alias; on = on })))) d name_at _ (name_reader Nothing d)
     (λ table. then_reader SourceEnds GivenEnds (λ _ _. IsGiven) (λ alias d g next. IsOn d g joined (λ on. next (record { table = table; alias = alias; on = on }))) d given_at _ (given_reader GivenEnds (λ t n. inl n) (λ t a. inr (inl a)) d)
-      (λ alias. map_reader SourceEnds (On joined) (λ on. record { table = table; alias = alias; on = on }) d (on_at d joined) (on_reader joined d))
-      (λ a d' g next avoids t ts s h. on_clear joined d' g _ t ts s (λ on n. avoids _ t ts (within (symbol.Name ∷ symbol.As ∷ []) source_ends refl t s) n) h))
+    (λ alias. map_reader SourceEnds (On joined) (λ on. record { table = table; alias = alias; on = on }) d (on_at d joined) (on_reader joined d))
+    (λ a d' g next avoids t ts s h. on_clear joined d' g _ t ts s (λ on n. avoids _ t ts (within (symbol.Name ∷ symbol.As ∷ []) source_ends refl t s) n) h))
     (λ a d' g next avoids t ts s h. s)
 
 source_begins : (joined : Bool) → Begins (Sourced joined) (λ t. is symbol.Name t ≡ true)
@@ -220,7 +220,7 @@ source_begins joined d g next (t ∷ ts) h = h.0
 source_began : (joined : Bool) (t : Token) → is symbol.Name t ≡ true → (d : ℕ) → Began (Sourced joined) d [] (t ∷ [])
 source_began joined t e d =
     then_began {P = λ _ _. IsName} {Q = λ table d g next. IsGiven (λ alias. IsOn d g joined (λ on. next (record { table = table; alias = alias; on = on })))} (λ table. then_began {Q = λ alias d g next. IsOn d g joined (λ on. next (record { table = table; alias = alias; on = on }))}
-      (λ alias. (map_reader SourceEnds (On joined) (λ on. record { table = table; alias = alias; on = on }) d (on_at d joined) (on_reader joined d)).able) (given_able (λ given. given) d))
+    (λ alias. (map_reader SourceEnds (On joined) (λ on. record { table = table; alias = alias; on = on }) d (on_at d joined) (on_reader joined d)).able) (given_able (λ given. given) d))
     (record { more = []; value = named t; ends = λ d' g next v le o h. (e, h) })
 
 source_look : (joined : Bool) (d : ℕ) → Peek SourceEnds (Sourced joined) d (token_at (is symbol.Name))
@@ -236,9 +236,9 @@ SourcesEnds = AnyOf sources_ends
 no_join : (d : ℕ) (g : Gate) (next : Next Bool) (t : Token) (ts : List Token) → SourceEnds t → IsJoin next (t ∷ ts) → ⊥
 unfolding same_symbol
 no_join d g next t ts s h = elim (join_begins d g next (t ∷ ts) h) [
-    | inl c ↦ apart symbol.Comma source_ends refl t c s
-    | inr o ↦ elim o [ inl j ↦ apart symbol.Join source_ends refl t j s | inr p ↦ elim p [ inl i ↦ apart symbol.Inner source_ends refl t i s | inr none ↦ none ] ]
-  ]
+  | inl c ↦ apart symbol.Comma source_ends refl t c s
+  | inr o ↦ elim o [ inl j ↦ apart symbol.Join source_ends refl t j s | inr p ↦ elim p [ inl i ↦ apart symbol.Inner source_ends refl t i s | inr none ↦ none ] ]
+]
 
 source_parts : (d : ℕ) → Parts SourcesEnds SourceEnds (λ _ _. IsJoin) Sourced joins join_at (token_at (is symbol.Name)) (source_at d) d
 unfolding same_symbol
@@ -259,9 +259,9 @@ sources_reader d =
     let first = source_reader false d in
     record {
       law = λ ts. then_law SourcesEnds SourceEnds (Sourced false) (λ a. Further 64 (λ _ _. IsJoin) Sourced (a ∷ [])) d ts (source_at d false ts)
-        (λ first. more_at joins join_at (token_at (is symbol.Name)) (source_at d) 64 (length first.1) (first.0 ∷ []) first.1) (first.law ts)
-        (λ a r e. further_law 64 k (length r) (a ∷ []) r (omega arith)) (λ a. further_able 64 _ _ (a ∷ []) d)
-        (λ a d' g next avoids t us s h. more_clear SourcesEnds SourceEnds 64 (λ _ _. IsJoin) Sourced [] (λ t s. inr (inr (inr s))) no_join h.0 a d' g next avoids t us s h.1);
+          (λ first. more_at joins join_at (token_at (is symbol.Name)) (source_at d) 64 (length first.1) (first.0 ∷ []) first.1) (first.law ts)
+          (λ a r e. further_law 64 k (length r) (a ∷ []) r (omega arith)) (λ a. further_able 64 _ _ (a ∷ []) d)
+          (λ a d' g next avoids t us s h. more_clear SourcesEnds SourceEnds 64 (λ _ _. IsJoin) Sourced [] (λ t s. inr (inr (inr s))) no_join h.0 a d' g next avoids t us s h.1);
       able = then_began (λ a. further_able 64 (λ _ _. IsJoin) Sourced (a ∷ []) d) first.able;
     }
 
@@ -306,8 +306,8 @@ unfolding groups_at same_symbol
 groups_reader d =
     optional_reader GroupEnds (is symbol.Group) (sample symbol.Group) stands_group (λ _ g next. Is (is symbol.By) (λ _. IsList g 64 IsColumn (is symbol.Comma) next)) [] d (λ ts. token_at (is symbol.By) ts >>= λ by. list_at (is symbol.Comma) (token_at (is symbol.Name)) column_at 64 by.1)
     (symbol_reader GroupEnds symbol.By stands_by _ d _ (λ _.
-      list_reader GroupEnds ColumnEnds (λ _ _. IsColumn) (is symbol.Comma) (sample symbol.Comma) stands_comma (token_at (is symbol.Name)) 64 d column_at (columns d) (column_look d)
-      (λ t e. inr (inl e)) (λ t s e. apart symbol.Comma (symbol.Point ∷ []) refl t e s) (λ t s. inr (inr s))))
+    list_reader GroupEnds ColumnEnds (λ _ _. IsColumn) (is symbol.Comma) (sample symbol.Comma) stands_comma (token_at (is symbol.Name)) 64 d column_at (columns d) (column_look d)
+    (λ t e. inr (inl e)) (λ t s e. apart symbol.Comma (symbol.Point ∷ []) refl t e s) (λ t s. inr (inr s))))
     (λ t e. inl e)
 
 -- key = expr [ ASC | DESC ]
@@ -331,7 +331,7 @@ direction_reader S inS d =
     (behind_reader S (is symbol.Desc) (sample symbol.Desc) stands_desc (λ _ _ next. next true) AscOr d (λ r. Ok (true, r)) _ (pure_reader S d true)
     (optional_reader S (is symbol.Asc) (sample symbol.Asc) stands_asc Ascending false d (λ r. Ok (false, r)) (pure_reader S d false) (λ t e. inS t (inl e)))
     (λ ts e. or_other S Ascending (Then (λ _ _. Is (is symbol.Asc)) (λ _. Ascending)) ts (none_stops S (is symbol.Desc) false (λ t e. inS t (inr (inl e))) ts e)
-      (not_other S (Then (λ _ _. Is (is symbol.Asc)) (λ _. Ascending)) (λ t. is symbol.Asc t ≡ true) (is symbol.Desc) asc_begins (λ t e a. two_symbols symbol.Desc symbol.Asc t refl e a) ts e)))
+    (not_other S (Then (λ _ _. Is (is symbol.Asc)) (λ _. Ascending)) (λ t. is symbol.Asc t ≡ true) (is symbol.Desc) asc_begins (λ t e a. two_symbols symbol.Desc symbol.Asc t refl e a) ts e)))
   where
     asc_begins : Begins (Then (λ _ _. Is (is symbol.Asc)) (λ _. Ascending)) (λ t. is symbol.Asc t ≡ true)
     asc_begins d g next [] h = h
@@ -351,7 +351,7 @@ key_reader d =
     then_reader KeyEnds ExprEnds (λ _ _. IsExpr) (λ e _ _ next. IsDirection (λ descending. next (record { expr = e; descending = descending }))) d expr_at _ (exprs d)
     (λ e. map_reader KeyEnds (λ _ _. IsDirection) (λ descending. record { expr = e; descending = descending }) d direction_at (direction_reader KeyEnds (λ t s. inr (inr s)) d))
     (λ a d' g next avoids t ts s h. direction_not KeyEnds (λ descending. next (record { expr = a; descending = descending })) t ts s
-      (λ n. avoids (record { expr = a; descending = false }) t ts (within (symbol.Point ∷ symbol.Open ∷ []) (symbol.Point ∷ symbol.Open ∷ symbol.Asc ∷ symbol.Desc ∷ []) refl t s) n) h)
+    (λ n. avoids (record { expr = a; descending = false }) t ts (within (symbol.Point ∷ symbol.Open ∷ []) (symbol.Point ∷ symbol.Open ∷ symbol.Asc ∷ symbol.Desc ∷ []) refl t s) n) h)
 
 key_begins : Begins (λ _ _. IsKey) (λ t. is symbol.Name t ≡ true)
 key_begins d g next w h = expr_begins d g (λ e. IsDirection (λ descending. next (record { expr = e; descending = descending }))) w h
@@ -359,7 +359,7 @@ key_begins d g next w h = expr_begins d g (λ e. IsDirection (λ descending. nex
 key_look : (d : ℕ) → Peek KeyEnds (λ _ _. IsKey) d (token_at (is symbol.Name))
 key_look d = token_peek KeyEnds (λ _ _. IsKey) (is symbol.Name) d (none_other KeyEnds (λ _ _. IsKey) (λ t. is symbol.Name t ≡ true) (is symbol.Name) key_begins (λ t e. e)) (key_reader d).able
     (λ t e. then_began {Q = λ e _ _ next. IsDirection (λ descending. next (record { expr = e; descending = descending }))}
-      (λ a. record { more = []; value = record { expr = a; descending = false }; ends = λ d' g next v le o h. inl h }) (expr_began t e d))
+    (λ a. record { more = []; value = record { expr = a; descending = false }; ends = λ d' g next v le o h. inl h }) (expr_began t e d))
 
 -- [ ORDER BY key { "," key } ]
 abbrev OrderEnds : Token → Type 0
@@ -370,8 +370,8 @@ unfolding orders_at same_symbol
 orders_reader d =
     optional_reader OrderEnds (is symbol.Order) (sample symbol.Order) stands_order (λ _ g next. Is (is symbol.By) (λ _. IsList g 64 IsKey (is symbol.Comma) next)) [] d (λ ts. token_at (is symbol.By) ts >>= λ by. list_at (is symbol.Comma) (token_at (is symbol.Name)) key_at 64 by.1)
     (symbol_reader OrderEnds symbol.By stands_by _ d _ (λ _.
-      list_reader OrderEnds KeyEnds (λ _ _. IsKey) (is symbol.Comma) (sample symbol.Comma) stands_comma (token_at (is symbol.Name)) 64 d key_at (key_reader d) (key_look d)
-      (λ t e. inr (inl e)) (λ t s e. apart symbol.Comma (symbol.Point ∷ symbol.Open ∷ symbol.Asc ∷ symbol.Desc ∷ []) refl t e s) (λ t s. inr (inr s))))
+    list_reader OrderEnds KeyEnds (λ _ _. IsKey) (is symbol.Comma) (sample symbol.Comma) stands_comma (token_at (is symbol.Name)) 64 d key_at (key_reader d) (key_look d)
+    (λ t e. inr (inl e)) (λ t s e. apart symbol.Comma (symbol.Point ∷ symbol.Open ∷ symbol.Asc ∷ symbol.Desc ∷ []) refl t e s) (λ t s. inr (inr s))))
     (λ t e. inl e)
 
 -- the rest of a statement, part by part
@@ -460,9 +460,9 @@ filtered_reader f d =
 
 items_begin : Begins (λ _ g. IsItems g) (AnyOf (symbol.Star ∷ symbol.Name ∷ []))
 items_begin d g next w h = elim h [
-    | inl s ↦ widened (λ t. is symbol.Star t ≡ true) (AnyOf (symbol.Star ∷ symbol.Name ∷ [])) (λ t e. inl e) w (stars_begin d g next w s)
-    | inr l ↦ widened (λ t. is symbol.Name t ≡ true) (AnyOf (symbol.Star ∷ symbol.Name ∷ [])) (λ t e. inr (inl e)) w (listed_begins d g next w l)
-  ]
+  | inl s ↦ widened (λ t. is symbol.Star t ≡ true) (AnyOf (symbol.Star ∷ symbol.Name ∷ [])) (λ t e. inl e) w (stars_begin d g next w s)
+  | inr l ↦ widened (λ t. is symbol.Name t ≡ true) (AnyOf (symbol.Star ∷ symbol.Name ∷ [])) (λ t e. inr (inl e)) w (listed_begins d g next w l)
+]
 
 -- select = SELECT [ DISTINCT ] items FROM sources ..
 abbrev made : Option Token → Items → List Source → Option Test → List ColumnName → Option Test → List OrderItem → Select
@@ -487,8 +487,8 @@ select_reader d =
     then_reader Nothing (AnyOf (symbol.Distinct ∷ [])) (λ _ _. IsOptional (is symbol.Distinct)) after_distinct d (λ ts. Ok (optional_at (is symbol.Distinct) ts)) (after_distinct_at d)
     (maybe_reader (AnyOf (symbol.Distinct ∷ [])) (is symbol.Distinct) (sample symbol.Distinct) stands_distinct d (λ t e. inl e))
     (λ distinct. then_reader Nothing ItemsEnds (λ _ g. IsItems g) (after_items distinct) d items_at (after_items_at d distinct) (items_reader d)
-      (λ items. symbol_reader Nothing symbol.From stands_from _ d _ (λ _.
-        then_reader Nothing SourcesEnds IsSources (λ sources. Filtered (made distinct items sources)) d (sources_at d) (λ sources. filtered_at d (made distinct items sources.0) sources.1) (sources_reader d) (λ sources. filtered_reader (made distinct items sources) d)
-        (λ a d' g next avoids t ts k h. disjoint sources_ends (symbol.Where ∷ symbol.Group ∷ symbol.Having ∷ symbol.Order ∷ symbol.Semicolon ∷ symbol.End ∷ []) refl t k (filtered_begins (made distinct items a) d' g next (t ∷ ts) h))))
-      (λ a d' g next avoids t ts k h. apart symbol.From (symbol.Point ∷ symbol.Open ∷ symbol.Name ∷ symbol.As ∷ symbol.Comma ∷ []) refl t h.0 k))
+    (λ items. symbol_reader Nothing symbol.From stands_from _ d _ (λ _.
+    then_reader Nothing SourcesEnds IsSources (λ sources. Filtered (made distinct items sources)) d (sources_at d) (λ sources. filtered_at d (made distinct items sources.0) sources.1) (sources_reader d) (λ sources. filtered_reader (made distinct items sources) d)
+    (λ a d' g next avoids t ts k h. disjoint sources_ends (symbol.Where ∷ symbol.Group ∷ symbol.Having ∷ symbol.Order ∷ symbol.Semicolon ∷ symbol.End ∷ []) refl t k (filtered_begins (made distinct items a) d' g next (t ∷ ts) h))))
+    (λ a d' g next avoids t ts k h. apart symbol.From (symbol.Point ∷ symbol.Open ∷ symbol.Name ∷ symbol.As ∷ symbol.Comma ∷ []) refl t h.0 k))
     (λ a d' g next avoids t ts k h. disjoint (symbol.Distinct ∷ []) (symbol.Star ∷ symbol.Name ∷ []) refl t k (items_begin d' g (λ items. after_items a items d' g next) (t ∷ ts) h)))

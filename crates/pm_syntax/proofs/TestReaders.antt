@@ -33,12 +33,12 @@ either false b e = inr e
 
 pub literal_first : (t : Token) → begins_literal t ≡ true → LiteralFirst t
 literal_first t e = elim (either (is symbol.Minus t || is symbol.Text t || is symbol.Null t) (is symbol.Number t) e) [
-    | inr n ↦ inr (inr (inr (inl n)))
-    | inl more ↦ elim (either (is symbol.Minus t || is symbol.Text t) (is symbol.Null t) more) [
-      | inr n ↦ inr (inr (inl n))
-      | inl two ↦ elim (either (is symbol.Minus t) (is symbol.Text t) two) [ inl m ↦ inl m | inr x ↦ inr (inl x) ]
-    ]
+  | inr n ↦ inr (inr (inr (inl n)))
+  | inl more ↦ elim (either (is symbol.Minus t || is symbol.Text t) (is symbol.Null t) more) [
+    | inr n ↦ inr (inr (inl n))
+    | inl two ↦ elim (either (is symbol.Minus t) (is symbol.Text t) two) [ inl m ↦ inl m | inr x ↦ inr (inl x) ]
   ]
+]
 
 or_true : (a : Bool) → (a || true) ≡ true
 or_true true = refl
@@ -46,27 +46,27 @@ or_true false = refl
 
 pub first_literal : (t : Token) → LiteralFirst t → begins_literal t ≡ true
 first_literal t h = elim h [
-    | inl m ↦ rw m refl
-    | inr a ↦ elim a [
-      | inl x ↦ rw (x, or_true (is symbol.Minus t)) refl
-      | inr b ↦ elim b [
-        | inl n ↦ rw (n, or_true (is symbol.Minus t || is symbol.Text t)) refl
-        | inr c ↦ elim c [ inl d ↦ rw (d, or_true (is symbol.Minus t || is symbol.Text t || is symbol.Null t)) refl | inr none ↦ absurd none ]
-      ]
+  | inl m ↦ rw m refl
+  | inr a ↦ elim a [
+    | inl x ↦ rw (x, or_true (is symbol.Minus t)) refl
+    | inr b ↦ elim b [
+      | inl n ↦ rw (n, or_true (is symbol.Minus t || is symbol.Text t)) refl
+      | inr c ↦ elim c [ inl d ↦ rw (d, or_true (is symbol.Minus t || is symbol.Text t || is symbol.Null t)) refl | inr none ↦ absurd none ]
     ]
   ]
+]
 
 pub literal_began : (t : Token) → LiteralFirst t → (d : ℕ) → Began (λ _ _. IsLiteral) d [] (t ∷ [])
 literal_began t h d = elim h [
-    | inl m ↦ record { more = sample symbol.Number ∷ []; value = literal.Number (neg_ℤ (pos (magnitude (sample symbol.Number)))) (decimals_len (sample symbol.Number).slice); ends = λ d' g next v le o k. inr (inl (m, (stands_number, k))) }
-    | inr a ↦ elim a [
-      | inl x ↦ record { more = []; value = literal.Text (content_of t); ends = λ d' g next v le o k. inr (inr (inl (x, k))) }
-      | inr b ↦ elim b [
-        | inl n ↦ record { more = []; value = literal.Null; ends = λ d' g next v le o k. inr (inr (inr (n, k))) }
-        | inr c ↦ elim c [ inl e ↦ record { more = []; value = literal.Number (pos (magnitude t)) (decimals_len t.slice); ends = λ d' g next v le o k. inl (e, k) } | inr none ↦ absurd none ]
-      ]
+  | inl m ↦ record { more = sample symbol.Number ∷ []; value = literal.Number (neg_ℤ (pos (magnitude (sample symbol.Number)))) (decimals_len (sample symbol.Number).slice); ends = λ d' g next v le o k. inr (inl (m, (stands_number, k))) }
+  | inr a ↦ elim a [
+    | inl x ↦ record { more = []; value = literal.Text (content_of t); ends = λ d' g next v le o k. inr (inr (inl (x, k))) }
+    | inr b ↦ elim b [
+      | inl n ↦ record { more = []; value = literal.Null; ends = λ d' g next v le o k. inr (inr (inr (n, k))) }
+      | inr c ↦ elim c [ inl e ↦ record { more = []; value = literal.Number (pos (magnitude t)) (decimals_len t.slice); ends = λ d' g next v le o k. inl (e, k) } | inr none ↦ absurd none ]
     ]
   ]
+]
 
 literal_peek : (S : Token → Type 0) (d : ℕ) → Peek S (λ _ _. IsLiteral) d (token_at begins_literal)
 literal_peek S d = token_peek S (λ _ _. IsLiteral) begins_literal d (none_other S (λ _ _. IsLiteral) LiteralFirst begins_literal literal_begins first_literal) (literal_reader S d).able
@@ -138,7 +138,7 @@ between_reader S inS grouped of negation d =
     then_reader S OperandEnds (λ _ _. IsOperand grouped) (λ low _ _ next. Is (is symbol.And) (λ _. IsOperand grouped (λ high. next (test.Between of low high (is_some negation) (unwrap_or negation word).at)))) d (operand_at grouped) _
     (operands OperandEnds (λ t e. e) grouped d)
     (λ low. symbol_reader S symbol.And stands_and _ d _ (λ _.
-      map_reader S (λ _ _. IsOperand grouped) (λ high. test.Between of low high (is_some negation) (unwrap_or negation word).at) d (operand_at grouped) (operands S inS grouped d)))
+    map_reader S (λ _ _. IsOperand grouped) (λ high. test.Between of low high (is_some negation) (unwrap_or negation word).at) d (operand_at grouped) (operands S inS grouped d)))
     (λ a d' g next avoids t ts s h. apart symbol.And (symbol.Point ∷ symbol.Open ∷ []) refl t h.0 s))
 
 in_begins : (of : Atom) (negation : Option Token) → Begins (Ins of negation) (AnyOf (symbol.In ∷ []))
@@ -195,9 +195,9 @@ nulls_or_begin grouped of d g next (t ∷ ts) h = elim h [ inl r ↦ inr (not_ra
 
 no_sign : (t : Token) → compares t ≡ true → AnyOf (symbol.Is ∷ symbol.Not ∷ symbol.In ∷ symbol.Between ∷ []) t → ⊥
 no_sign t c h = elim h [
-    | inl e ↦ no_comparison symbol.Is refl t c e
-    | inr a ↦ elim a [ inl e ↦ no_comparison symbol.Not refl t c e | inr b ↦ elim b [ inl e ↦ no_comparison symbol.In refl t c e | inr f ↦ elim f [ inl e ↦ no_comparison symbol.Between refl t c e | inr none ↦ none ] ] ]
-  ]
+  | inl e ↦ no_comparison symbol.Is refl t c e
+  | inr a ↦ elim a [ inl e ↦ no_comparison symbol.Not refl t c e | inr b ↦ elim b [ inl e ↦ no_comparison symbol.In refl t c e | inr f ↦ elim f [ inl e ↦ no_comparison symbol.Between refl t c e | inr none ↦ none ] ] ]
+]
 
 compare_begins : (grouped : Bool) (of : Atom) → Begins (Compares grouped of) (λ t. compares t ≡ true)
 compare_begins grouped of d g next [] h = h
@@ -253,9 +253,9 @@ test_began grouped t h d = then_began (λ of. (test_behind_reader OperandEnds (�
 
     operand_began : (t' : Token) → OperandFirst t → Began (λ _ _. IsOperand grouped) d [] (t ∷ [])
     operand_began t' h = elim h [
-        | inl n ↦ first_began (Termed grouped) Literals (let b = term_began grouped t n d in record { more = b.more; value = atom.Expr b.value; ends = λ d' g next v le o k. b.ends d' g (λ e. next (atom.Expr e)) v le o k })
-        | inr l ↦ atoms (literal_began t l d)
-      ]
+      | inl n ↦ first_began (Termed grouped) Literals (let b = term_began grouped t n d in record { more = b.more; value = atom.Expr b.value; ends = λ d' g next v le o k. b.ends d' g (λ e. next (atom.Expr e)) v le o k })
+      | inr l ↦ atoms (literal_began t l d)
+    ]
 
 pub first_test : (t : Token) → OperandFirst t → begins_test t ≡ true
 first_test t h = elim h [ inl n ↦ rw n refl | inr l ↦ rw (first_literal t l, or_true (is symbol.Name t)) refl ]

@@ -49,7 +49,7 @@ fault_means ts front rest e no_phrase is place dead b goes = record {
   ok = tt;
   only = λ select reads. absurd (no_reading ts front rest is (λ w select heads h. dead 32 never (Whole select) w tt (free (Whole select)) heads h) select reads);
   unexpected = λ p q. let same : expected p ≡ expected (place_of rest) = sym (stop_same q) ∙ place in expected_from ts front rest p is (cc same) (begins_from 32 front [] b)
-    (λ d select w heads h. dead d always (Whole select) w tt (free (Whole select)) heads h);
+      (λ d select w heads h. dead d always (Whole select) w tt (free (Whole select)) heads h);
   deep = λ p q. absurd (let same : too_deep p ≡ expected (place_of rest) = sym (stop_same q) ∙ place in cc same);
   many = λ p q. absurd (let same : too_many p ≡ expected (place_of rest) = sym (stop_same q) ∙ place in cc same);
 }
@@ -58,18 +58,18 @@ fault_means ts front rest e deeper is place dead b goes = record {
   only = λ select reads. absurd (no_reading ts front rest is (λ w select heads h. dead 32 never (Whole select) w refl (free (Whole select)) heads h) select reads);
   unexpected = λ p q. absurd (let same : expected p ≡ too_deep (place_of rest) = sym (stop_same q) ∙ place in cc same);
   deep = λ p q.
-    let same : too_deep p ≡ too_deep (place_of rest) = sym (stop_same q) ∙ place in
-    let here : p ≡ place_of rest = cc same in
-    let on = goes.1 in (
-      front,
-      on.token,
-      on.others,
-      is ∙ rw on.is refl,
-      rw on.is at here,
-      begins_from 32 front [] b,
-      (λ more select h. dead 32 always (Whole select) (on.token ∷ more) refl (free (Whole select)) (rw on.is refl) (rw append_assoc at h)),
-      (goes.0, begins_from goes.0 front (on.token ∷ []) on.began),
-    );
+      let same : too_deep p ≡ too_deep (place_of rest) = sym (stop_same q) ∙ place in
+      let here : p ≡ place_of rest = cc same in
+      let on = goes.1 in (
+        front,
+        on.token,
+        on.others,
+        is ∙ rw on.is refl,
+        rw on.is at here,
+        begins_from 32 front [] b,
+        (λ more select h. dead 32 always (Whole select) (on.token ∷ more) refl (free (Whole select)) (rw on.is refl) (rw append_assoc at h)),
+        (goes.0, begins_from goes.0 front (on.token ∷ []) on.began),
+      );
   many = λ p q. absurd (let same : too_many p ≡ too_deep (place_of rest) = sym (stop_same q) ∙ place in cc same);
 }
 fault_means ts front rest e longer is place dead b goes = record {
@@ -78,17 +78,17 @@ fault_means ts front rest e longer is place dead b goes = record {
   unexpected = λ p q. absurd (let same : expected p ≡ too_many (place_of rest) = sym (stop_same q) ∙ place in cc same);
   deep = λ p q. absurd (let same : too_deep p ≡ too_many (place_of rest) = sym (stop_same q) ∙ place in cc same);
   many = λ p q.
-    let same : too_many p ≡ too_many (place_of rest) = sym (stop_same q) ∙ place in
-    let here : p ≡ place_of rest = cc same in (
-      front,
-      goes.token,
-      goes.others,
-      is ∙ rw goes.is refl,
-      rw goes.is at here,
-      begins_from 32 front [] b,
-      begins_from 32 front (goes.token ∷ []) goes.began,
-      (λ begins. dead 32 (from begins.0) (Whole begins.1) (goes.token ∷ begins.0) (λ us le more. longer_than begins.0 us le more) (free (Whole begins.1)) (rw goes.is refl) (rw append_assoc at begins.2)),
-    );
+      let same : too_many p ≡ too_many (place_of rest) = sym (stop_same q) ∙ place in
+      let here : p ≡ place_of rest = cc same in (
+        front,
+        goes.token,
+        goes.others,
+        is ∙ rw goes.is refl,
+        rw goes.is at here,
+        begins_from 32 front [] b,
+        begins_from 32 front (goes.token ∷ []) goes.began,
+        (λ begins. dead 32 (from begins.0) (Whole begins.1) (goes.token ∷ begins.0) (λ us le more. longer_than begins.0 us le more) (free (Whole begins.1)) (rw goes.is refl) (rw append_assoc at begins.2)),
+      );
 }
   where
     longer_than : (more us : List Token) → suc (length more) ≤ length us → length us ≤ length more → ⊥
@@ -110,8 +110,8 @@ meaning ts (Ok (a, t ∷ others)) l = record {
   ok = tt;
   only = λ select reads. let h = l.took.only 32 never (Whole select) (t ∷ others) (free (Whole select)) refl (rw l.is at reads) in absurd (let q : t ∷ others ≡ [] = h.1 in cc);
   unexpected = λ p e. let same : expected t.at ≡ expected p = stop_same e in expected_from ts l.front (t ∷ others) p l.is (cc same)
-    ([], a, l.took.keeps 32 (from []) (Whole a) [] (omega arith) (refl, refl))
-    (λ d select w heads h. trailing t others w select heads (l.took.only d always (Whole select) w (free (Whole select)) heads h));
+      ([], a, l.took.keeps 32 (from []) (Whole a) [] (omega arith) (refl, refl))
+      (λ d select w heads h. trailing t others w select heads (l.took.only d always (Whole select) w (free (Whole select)) heads h));
   deep = λ p e. absurd (let same : expected t.at ≡ too_deep p = stop_same e in cc same);
   many = λ p e. absurd (let same : expected t.at ≡ too_many p = stop_same e in cc same);
 }

@@ -41,7 +41,9 @@ fn joins(tokens: &[Token]) -> bool
 {
     match tokens {
         [] => false,
-        [token, ..] => is(Symbol::Comma, token) || is(Symbol::Join, token) || is(Symbol::Inner, token),
+        [token, ..] => is(Symbol::Comma, token)
+            || is(Symbol::Join, token)
+            || is(Symbol::Inner, token),
     }
 }
 
@@ -86,7 +88,12 @@ fn source(alloc: Global, joined: bool, tokens: &[Token]) -> Result<(Source, &[To
 }
 
 // A further source, or why there is none past the limit.
-fn next_source(alloc: Global, past: bool, joined: bool, tokens: &[Token]) -> Result<(Source, &[Token]), SynBad>
+fn next_source(
+    alloc: Global,
+    past: bool,
+    joined: bool,
+    tokens: &[Token],
+) -> Result<(Source, &[Token]), SynBad>
     ensures { Gives (λ x. (x.0, x.1.now)) result (entry_at past (token_at (is symbol.Name)) (source_at 32 joined) tokens.now) }
 {
     if past {
@@ -97,7 +104,11 @@ fn next_source(alloc: Global, past: bool, joined: bool, tokens: &[Token]) -> Res
 }
 
 // Further sources.
-fn more_sources(alloc: Global, mut list: Sources, mut rest: &[Token]) -> Result<(Sources, &[Token]), SynBad>
+fn more_sources(
+    alloc: Global,
+    mut list: Sources,
+    mut rest: &[Token],
+) -> Result<(Sources, &[Token]), SynBad>
     ensures { Gives (λ x. (x.0, x.1.now)) result (more_at joins join_at (token_at (is symbol.Name)) (source_at 32) 64 (length rest.entry.now) list rest.entry.now) }
 {
     'sources: for _ in 0..rest.len() {
