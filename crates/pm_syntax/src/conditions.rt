@@ -233,7 +233,7 @@ fn peek(depth: u32, tokens: &[Token]) -> Result<(&Token, &[Token]), SynBad>
     if !opens(tokens) {
         return test_begins(tokens);
     }
-    if depth > 0 {
+    if depth != 0 {
         return opening(tokens);
     }
     Err(SynBad::TooDeep(place(tokens)))
