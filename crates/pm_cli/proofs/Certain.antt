@@ -1,5 +1,5 @@
 -- the numbers of every run are certified
-use Rattle.std.proofs.Common.{◌≡◌, ℕ, ◌+◌, ◌*◌, ◌<◌, ◌≤◌, ◌^◌, Bool, true, false, cond, List, [], ◌∷◌, Option, None, Some, refl, sym, ap, subst, ◌∙◌, arith, ◌⊎◌, inl, inr}
+use Rattle.std.proofs.Common.{◌≡◌, ℕ, ◌*◌, ◌≤◌, ◌^◌, cond, None, Some, refl, sym, subst, ◌∙◌, arith, inl, inr}
 use Rattle.std.proofs.lemmas.Bool.{cases_Bool}
 use Rattle.std.specs.Prelude.{All, nat_lt}
 use Rattle.pm_values.specs.Table.{IsRelation}
@@ -9,9 +9,8 @@ use Rattle.pm_plan.specs.declared.gauge.Shown.{Shown}
 use Rattle.pm_plan.specs.declared.plan.Plan.{Plan}
 use Rattle.pm_plan.specs.Rows.{Db}
 use Rattle.pm_plan.specs.Tree.{tree_of}
-use Rattle.pm_plan.specs.Outputs.{output, whole_work, scanned_rows}
+use Rattle.pm_plan.specs.Outputs.{whole_work, scanned_rows}
 use Rattle.pm_plan.specs.Fits.{Fits}
-use Rattle.pm_plan.specs.Answer.{answer}
 use Rattle.pm_plan.proofs.Answers.{rows-answer}
 use Rattle.pm_cli.specs.Estimates.{safe_root, shown_at}
 use Rattle.pm_cli.specs.Certified.{IsCertified, AreCertified}

@@ -1,6 +1,6 @@
 -- the answer of the top call, from how loading ended
-use Rattle.std.proofs.Common.{◌≡◌, List, [], ◌∷◌, Option, Some, None, Result, Ok, Err, refl, sym, ap, subst, ◌∙◌, ◌⊎◌, inl, inr}
-use Rattle.std.specs.Prelude.{IfSome, IsErrOf, All}
+use Rattle.std.proofs.Common.{◌≡◌, [], ◌∷◌, Option, Some, None, Err, refl, sym, ap, subst, ◌⊎◌, inl, inr}
+use Rattle.std.specs.Prelude.{IfSome, IsErrOf}
 use Rattle.std.proofs.lemmas.List.Elements.{All-from_recursion}
 use Rattle.pm_values.specs.Table.{Relation, IsRelation}
 use Rattle.pm_plan.specs.Fits.{plan_over}
@@ -9,7 +9,7 @@ use Rattle.pm_cli.specs.declared.status.Status.TheVariants as status
 use Rattle.pm_cli.specs.declared.refusal.Refusal.{Refusal}
 use Rattle.pm_cli.specs.declared.refusal.Refusal.TheVariants as refusal
 use Rattle.pm_cli.specs.Refusal.{status_of}
-use Rattle.pm_cli.specs.Verdict.{Verdict, Usage, NoFile, NotBuilt, Loaded, verdict_of}
+use Rattle.pm_cli.specs.Verdict.{Verdict, Loaded, verdict_of}
 use Rattle.pm_cli.specs.Certified.{AreCertified}
 use Rattle.pm_cli.specs.Answers.{IsAnswerTo, IsSetback}
 use Rattle.pm_cli.proofs.Certain.{certified}

@@ -1,4 +1,4 @@
-use Rattle.std.proofs.Common.{◌≡◌, ◌++◌, subst}
+use Rattle.std.proofs.Common.{subst}
 use Rattle.std.proofs.lemmas.Result.{on_err_weaker}
 use Rattle.pm_io.specs.Sink.{GainsPart}
 use Rattle.pm_io.proofs.Parts.{on_err, part_first, part_later}

@@ -1,6 +1,5 @@
 use Rattle.std.proofs.Common.{◌≡◌, ◌⊎◌, subst, sym}
 use Rattle.pm_io.specs.Sink.{gained}
-use Rattle.pm_plan.specs.Fits.{plan_over}
 use Rattle.pm_values.specs.Table.{IsRelation}
 use Rattle.pm_cli.specs.declared.status.Status.TheVariants as status
 use Rattle.pm_cli.specs.Verdict.{Loaded}

@@ -1,9 +1,9 @@
-use Rattle.std.proofs.Common.{◌≡◌, ◌+◌, ◌<◌, ◌≤◌, ◌++◌, length, get_or, subst, sym, ap, refl, ◌∙◌, arith}
+use Rattle.std.proofs.Common.{◌≡◌, ◌+◌, ◌≤◌, ◌++◌, get_or, subst, sym, ap, ◌∙◌, arith}
 use Rattle.pm_io.specs.Sink.{gained, GainsPart}
 use Rattle.pm_io.proofs.Outside.{gained-gained}
 use Rattle.pm_io.proofs.Parts.{on_err, part_first, part_later}
 use Rattle.pm_plan.specs.Tree.{tree_of}
-use Rattle.pm_plan.specs.Outputs.{output, whole_work}
+use Rattle.pm_plan.specs.Outputs.{whole_work}
 use Rattle.pm_lines.specs.Progress.{end_line}
 use Rattle.pm_plan.specs.declared.gauge.Gauge.{Gauge}
 use Rattle.pm_cli.specs.declared.exec.iter.Tick.{Tick}
