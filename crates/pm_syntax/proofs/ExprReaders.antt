@@ -1,16 +1,15 @@
 -- The readers of names, columns, expressions and literals read their productions.
-use Rattle.std.proofs.Common.{◌≡◌, ◌⊎◌, ℕ, Bool, true, false, List, [], ◌∷◌, ◌++◌, drop, Result, Ok, Err, Option, Some, None, refl, sym, ◌∙◌, inl, inr, if◌then◌else◌, ◌||◌, ◌&&◌, is_some, unwrap_or, pos, neg_ℤ, arith}
+use Rattle.std.proofs.Common.{◌≡◌, ◌⊎◌, ℕ, Bool, true, false, List, [], ◌∷◌, drop, Ok, Some, None, refl, sym, inl, inr, if◌then◌else◌, ◌&&◌, is_some, unwrap_or, pos, neg_ℤ}
 use Rattle.pm_lexer.specs.declared.token.Token.{Token}
 use Rattle.pm_lexer.specs.declared.token.TokenKind.{TokenKind}
 use Rattle.pm_lexer.specs.declared.token.TokenKind.TheVariants as kind
-use Rattle.pm_lexer.specs.declared.symbol.Symbol.{Symbol}
 use Rattle.pm_lexer.specs.declared.symbol.Symbol.TheVariants as symbol
 use Rattle.pm_lexer.specs.Symbol.{symbol_of, symbol_at, same_symbol, is}
 use Rattle.pm_lexer.specs.Pieces.{content_of, decimals_len}
-use Rattle.pm_lexer.specs.Language.{Lang, Gate, Is}
-use Rattle.pm_lexer.specs.Reading.{Read, ◌>>=◌, sees, token_at}
-use Rattle.pm_lexer.proofs.Phrases.{Phrase, Next, Avoids, Heads, Reader, Nothing, NotOther, Able, Began}
-use Rattle.pm_lexer.proofs.Readers.{Then, Or, Same, pure_reader, then_reader, same_reader, same_began, map_reader, not_seen}
+use Rattle.pm_lexer.specs.Language.{Gate, Is}
+use Rattle.pm_lexer.specs.Reading.{◌>>=◌, sees, token_at}
+use Rattle.pm_lexer.proofs.Phrases.{Phrase, Next, Reader, Nothing, NotOther, Began}
+use Rattle.pm_lexer.proofs.Readers.{Then, Or, Same, pure_reader, then_reader, same_reader, same_began, map_reader}
 use Rattle.pm_lexer.proofs.Furthers.{choice_reader, behind_reader, optional_reader}
 use Rattle.pm_syntax.specs.declared.tree.PlacedName.{PlacedName}
 use Rattle.pm_syntax.specs.declared.tree.ColumnName.{ColumnName}
@@ -23,10 +22,10 @@ use Rattle.pm_syntax.specs.declared.tree.Atom.{Atom}
 use Rattle.pm_syntax.specs.declared.tree.Atom.TheVariants as atom
 use Rattle.pm_syntax.specs.Terminals.{named, func_of, func_of_kind, magnitude}
 use Rattle.pm_syntax.specs.Grammar.{IsName, IsColumn, counts, is_count, IsCountAll, IsCall, IsExpr, IsLiteral, IsTerm, IsOperand}
-use Rattle.pm_syntax.specs.Reading.{name_at, column_behind, column_at, call_behind, expr_behind, expr_at, literal_at, term_at, operand_at, begins_literal, begins_test}
-use Rattle.pm_syntax.proofs.Tokens.{is_symbol, two_symbols, sample, Stands, stands_name, stands_point, stands_open, stands_close, stands_star, stands_minus, stands_number, stands_text, stands_null, symbol_reader, other_symbol}
+use Rattle.pm_syntax.specs.Reading.{name_at, column_behind, column_at, call_behind, expr_behind, expr_at, literal_at, term_at, operand_at}
+use Rattle.pm_syntax.proofs.Tokens.{two_symbols, sample, stands_name, stands_point, stands_open, stands_close, stands_star, stands_minus, stands_number, stands_text, stands_null, symbol_reader}
 use Rattle.pm_syntax.proofs.Helpers.{token_began}
-use Rattle.pm_syntax.proofs.Sets.{AnyOf, FirstIn, Begins, begins_is, widened, not_other, none_other, apart}
+use Rattle.pm_syntax.proofs.Sets.{AnyOf, Begins, widened, not_other, none_other, apart}
 
 pub name_reader : (S : Token → Type 0) (d : ℕ) → Reader S (λ _ _. IsName) d name_at
 unfolding name_at

@@ -1,15 +1,15 @@
 -- More readers: a token that may stand, readings that agree, and what the first token of a phrase says.
-use Rattle.std.proofs.Common.{◌≡◌, ◌⊎◌, ◌+◌, ◌≤◌, ℕ, Bool, true, false, List, [], ◌∷◌, ◌++◌, drop, Result, Ok, Err, Option, Some, None, refl, sym, ◌∙◌, inl, inr, if◌then◌else◌, ◌||◌, ◌&&◌, arith, append_assoc}
+use Rattle.std.proofs.Common.{◌≡◌, ◌+◌, ℕ, Bool, true, false, List, [], ◌∷◌, ◌++◌, Ok, Err, Option, Some, None, refl, inl, inr, if◌then◌else◌, arith}
 use Rattle.pm_lexer.specs.declared.token.Token.{Token}
-use Rattle.pm_lexer.specs.Language.{Lang, Gate, Is, IsList}
-use Rattle.pm_lexer.specs.Reading.{Stop, expected, Read, ◌>>=◌, sees, token_at}
-use Rattle.pm_lexer.proofs.Phrases.{Phrase, Next, Avoids, Heads, Reader, Law, Nothing, NotOther, Able, Began, Open, open_behind, Fault, GoesOn, fault_moved, moved, weaker_began}
-use Rattle.pm_lexer.proofs.Readers.{Then, Clear, Or, Same, pure_reader, then_reader, then_began, same_reader, same_began, map_reader, token_reader}
+use Rattle.pm_lexer.specs.Language.{Is}
+use Rattle.pm_lexer.specs.Reading.{expected, Read, ◌>>=◌, sees, token_at}
+use Rattle.pm_lexer.proofs.Phrases.{Phrase, Reader, Able, Began, open_behind, fault_moved, moved, weaker_began}
+use Rattle.pm_lexer.proofs.Readers.{Then, Clear, Or, Same, pure_reader, then_began, same_reader, same_began, token_reader}
 use Rattle.pm_lexer.proofs.Lists.{Peek}
 use Rattle.pm_lexer.proofs.Furthers.{choice_reader}
 use Rattle.pm_syntax.specs.Grammar.{IsOptional}
 use Rattle.pm_syntax.specs.Reading.{optional_at}
-use Rattle.pm_syntax.proofs.Sets.{none_stops, none_other, begins_is, FirstIn, Begins}
+use Rattle.pm_syntax.proofs.Sets.{none_stops, none_other, begins_is}
 
 -- readings that agree
 pub read_same : {A : Type 0} {S : Token → Type 0} {P : Phrase A} {d : ℕ} (p q : List Token → Read A) → ((ts : List Token) → p ts ≡ q ts) → Reader S P d p → Reader S P d q

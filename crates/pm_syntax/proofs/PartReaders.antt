@@ -1,21 +1,20 @@
 -- The readers of parts and conditions read their productions.
-use Rattle.std.proofs.Common.{◌≡◌, ◌≤◌, ◌⊎◌, ℕ, zero, suc, Bool, true, false, List, [], ◌∷◌, ◌++◌, drop, Result, Ok, Err, refl, sym, ◌∙◌, inl, inr, if◌then◌else◌, ◌||◌, ◌&&◌, arith}
+use Rattle.std.proofs.Common.{◌≡◌, ◌⊎◌, ℕ, zero, suc, Bool, true, false, List, [], ◌∷◌, Ok, Err, refl, sym, ◌∙◌, inl, inr, if◌then◌else◌, ◌||◌}
 use Rattle.pm_lexer.specs.declared.token.Token.{Token}
-use Rattle.pm_lexer.specs.declared.symbol.Symbol.{Symbol}
 use Rattle.pm_lexer.specs.declared.symbol.Symbol.TheVariants as symbol
-use Rattle.pm_lexer.specs.Symbol.{symbol_of, same_symbol, is}
-use Rattle.pm_lexer.specs.Language.{Lang, Gate, Is, IsMore, IsFurther, IsList}
-use Rattle.pm_lexer.specs.Reading.{Stop, expected, too_deep, Read, ◌>>=◌, place_of, sees, token_at, list_at}
-use Rattle.pm_lexer.proofs.Phrases.{Phrase, Next, Avoids, Heads, Reader, Law, Nothing, NotOther, Able, Began, Fault, GoesOn, deeper}
-use Rattle.pm_lexer.proofs.Readers.{Then, Clear, Or, Same, Under, pure_reader, then_reader, then_began, same_reader, same_began, same_law, first_law, map_reader, first_began, second_began, under_reader, under_began, first_fault, not_seen, token_able}
+use Rattle.pm_lexer.specs.Symbol.{same_symbol, is}
+use Rattle.pm_lexer.specs.Language.{Gate, Is, IsMore, IsFurther, IsList}
+use Rattle.pm_lexer.specs.Reading.{Stop, expected, too_deep, Read, ◌>>=◌, place_of, sees, token_at}
+use Rattle.pm_lexer.proofs.Phrases.{Phrase, Next, Avoids, Reader, Law, NotOther, Able, Began, Fault, GoesOn, deeper}
+use Rattle.pm_lexer.proofs.Readers.{Then, Or, Same, Under, pure_reader, then_reader, then_began, same_reader, same_began, same_law, first_law, map_reader, first_began, second_began, under_reader, under_began, first_fault, not_seen}
 use Rattle.pm_lexer.proofs.Lists.{Peek}
 use Rattle.pm_lexer.proofs.Furthers.{behind_reader, list_reader}
 use Rattle.pm_syntax.specs.declared.tree.Test.{Test}
 use Rattle.pm_syntax.specs.declared.tree.Test.TheVariants as test
-use Rattle.pm_syntax.specs.Grammar.{IsTest, all_of, any_of, IsPartAnd, IsCond, IsPart, IsCondition}
+use Rattle.pm_syntax.specs.Grammar.{all_of, any_of, IsPartAnd, IsCond, IsPart}
 use Rattle.pm_syntax.specs.Reading.{test_at, begins_test, opens, ands_at, cond_at, part_peek, part_at, condition_at}
-use Rattle.pm_syntax.proofs.Tokens.{is_symbol, two_symbols, sample, stands_not, stands_open, stands_close, stands_and, stands_or, symbol_reader}
-use Rattle.pm_syntax.proofs.Sets.{AnyOf, FirstIn, Begins, widened, not_other, apart, in_set, within}
+use Rattle.pm_syntax.proofs.Tokens.{sample, stands_not, stands_open, stands_close, stands_and, stands_or, symbol_reader}
+use Rattle.pm_syntax.proofs.Sets.{AnyOf, Begins, widened, not_other, apart, within}
 use Rattle.pm_syntax.proofs.Parts.{no_not, no_open}
 use Rattle.pm_syntax.proofs.Helpers.{token_began, then_peek}
 use Rattle.pm_syntax.proofs.ExprReaders.{OperandFirst}

@@ -1,13 +1,13 @@
 -- The readers of the parts of a statement, and of a whole one, read their productions.
-use Rattle.std.proofs.Common.{◌≡◌, ◌≤◌, ◌⊎◌, ℕ, zero, suc, Bool, true, false, List, [], ◌∷◌, ◌++◌, drop, length, Result, Ok, Err, Option, Some, None, refl, sym, ◌∙◌, inl, inr, if◌then◌else◌, ◌||◌, ◌&&◌, is_some, arith}
+use Rattle.std.proofs.Common.{◌≡◌, ◌⊎◌, ℕ, Bool, true, false, List, [], ◌∷◌, length, Ok, Option, Some, None, refl, inl, inr, ◌||◌, is_some, arith}
 use Rattle.pm_lexer.specs.declared.token.Token.{Token}
 use Rattle.pm_lexer.specs.declared.symbol.Symbol.{Symbol}
 use Rattle.pm_lexer.specs.declared.symbol.Symbol.TheVariants as symbol
 use Rattle.pm_lexer.specs.Symbol.{same_symbol, is}
-use Rattle.pm_lexer.specs.Language.{Lang, Gate, Is, IsMore, IsFurther, IsList}
-use Rattle.pm_lexer.specs.Reading.{Stop, Read, ◌>>=◌, place_of, sees, token_at, list_at, more_at}
-use Rattle.pm_lexer.proofs.Phrases.{Phrase, Next, Avoids, Heads, Reader, Law, Nothing, NotOther, Able, Began}
-use Rattle.pm_lexer.proofs.Readers.{Then, Clear, Or, Same, pure_reader, then_law, then_reader, then_began, same_reader, same_began, map_reader, wider_reader}
+use Rattle.pm_lexer.specs.Language.{Gate, Is, IsFurther, IsList}
+use Rattle.pm_lexer.specs.Reading.{Read, ◌>>=◌, token_at, list_at, more_at}
+use Rattle.pm_lexer.proofs.Phrases.{Phrase, Next, Avoids, Reader, Nothing, NotOther, Able, Began}
+use Rattle.pm_lexer.proofs.Readers.{Then, Or, pure_reader, then_law, then_reader, then_began, same_reader, map_reader, wider_reader}
 use Rattle.pm_lexer.proofs.Lists.{Peek, Further, further_able, more_clear}
 use Rattle.pm_lexer.proofs.Furthers.{Parts, further_law, choice_reader, behind_reader, optional_reader, list_reader, token_peek}
 use Rattle.pm_syntax.specs.declared.tree.PlacedName.{PlacedName}
@@ -23,9 +23,9 @@ use Rattle.pm_syntax.specs.declared.tree.Select.{Select}
 use Rattle.pm_syntax.specs.Terminals.{named}
 use Rattle.pm_syntax.specs.Grammar.{IsName, IsColumn, IsExpr, IsOptional, IsCondition, IsGiven, IsItem, IsItems, IsJoin, IsOn, IsSource, IsSources, IsFilter, IsGroups, IsHaving, IsDirection, IsKey, IsOrders, IsSelect}
 use Rattle.pm_syntax.specs.Reading.{name_at, column_at, expr_at, optional_at, condition_at, given_at, item_at, items_at, joins, join_at, on_at, source_at, sources_at, where_at, having_at, groups_at, direction_at, key_at, orders_at, select_at}
-use Rattle.pm_syntax.proofs.Tokens.{two_symbols, sample, stands_select, stands_distinct, stands_from, stands_join, stands_inner, stands_on, stands_where, stands_group, stands_by, stands_having, stands_order, stands_asc, stands_desc, stands_as, stands_comma, stands_star, stands_semicolon, stands_name, stands_end, symbol_reader}
-use Rattle.pm_syntax.proofs.Sets.{AnyOf, FirstIn, Begins, begins_is, widened, not_other, none_other, none_stops, apart, in_set, within, disjoint}
-use Rattle.pm_syntax.proofs.Helpers.{maybe_reader, then_peek}
+use Rattle.pm_syntax.proofs.Tokens.{two_symbols, sample, stands_select, stands_distinct, stands_from, stands_join, stands_inner, stands_on, stands_where, stands_group, stands_by, stands_having, stands_order, stands_asc, stands_desc, stands_as, stands_comma, stands_star, stands_semicolon, stands_end, symbol_reader}
+use Rattle.pm_syntax.proofs.Sets.{AnyOf, Begins, widened, not_other, none_other, none_stops, apart, within, disjoint}
+use Rattle.pm_syntax.proofs.Helpers.{maybe_reader}
 use Rattle.pm_syntax.proofs.ExprReaders.{name_reader, column_reader, column_began, expr_reader, expr_begins, expr_began}
 use Rattle.pm_syntax.proofs.PartReaders.{Conds, CondEnds, condition_reader}
 

@@ -1,15 +1,14 @@
 -- Sets of symbols, and what a phrase begins with.
-use Rattle.std.proofs.Common.{if◌then◌else◌, ◌≡◌, ◌⊎◌, ℕ, Bool, true, false, List, [], ◌∷◌, ◌++◌, refl, sym, ◌∙◌, inl, inr, ◌||◌, ◌&&◌, rules}
-use Rattle.std.specs.List.{list_all}
-use denote.Enum.Bare.{same_true, same_false}
+use Rattle.std.proofs.Common.{if◌then◌else◌, ◌≡◌, ◌⊎◌, ℕ, Bool, true, false, List, [], ◌∷◌, refl, sym, inl, inr, ◌||◌, ◌&&◌, rules}
+use denote.Enum.Bare.{same_true}
 use Rattle.pm_lexer.specs.contracts.symbol.Symbol.{the_type}
 use Rattle.pm_lexer.specs.declared.token.Token.{Token}
 use Rattle.pm_lexer.specs.declared.symbol.Symbol.{Symbol}
-use Rattle.pm_lexer.specs.Symbol.{symbol_of, same_symbol, is}
+use Rattle.pm_lexer.specs.Symbol.{same_symbol, is}
 use Rattle.pm_lexer.specs.Language.{Gate, Is}
 use Rattle.pm_lexer.specs.Reading.{sees}
-use Rattle.pm_lexer.proofs.Phrases.{Phrase, Next, Avoids, Heads, NotOther}
-use Rattle.pm_syntax.proofs.Tokens.{is_symbol, two_symbols}
+use Rattle.pm_lexer.proofs.Phrases.{Phrase, Next, NotOther}
+use Rattle.pm_syntax.proofs.Tokens.{two_symbols}
 
 -- a token that is one of these symbols
 abbrev pub AnyOf : List Symbol → Token → Type 0

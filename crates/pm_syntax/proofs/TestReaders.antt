@@ -1,18 +1,17 @@
 -- The readers of tests read their productions.
-use Rattle.std.proofs.Common.{◌≡◌, ◌⊎◌, ℕ, Bool, true, false, List, [], ◌∷◌, ◌++◌, drop, Result, Ok, Err, Option, Some, None, refl, sym, ◌∙◌, inl, inr, if◌then◌else◌, ◌||◌, ◌&&◌, is_some, unwrap_or, pos, neg_ℤ, arith}
+use Rattle.std.proofs.Common.{◌≡◌, ◌⊎◌, ℕ, Bool, true, false, List, [], ◌∷◌, Ok, Option, None, refl, inl, inr, ◌||◌, is_some, unwrap_or, pos, neg_ℤ}
 use Rattle.pm_lexer.specs.declared.token.Token.{Token}
 use Rattle.pm_lexer.specs.declared.symbol.Symbol.{Symbol}
 use Rattle.pm_lexer.specs.declared.symbol.Symbol.TheVariants as symbol
-use Rattle.pm_lexer.specs.Symbol.{symbol_of, same_symbol, is}
+use Rattle.pm_lexer.specs.Symbol.{same_symbol, is}
 use Rattle.pm_lexer.specs.Pieces.{content_of, decimals_len}
-use Rattle.pm_lexer.specs.Language.{Lang, Gate, Is, IsList}
-use Rattle.pm_lexer.specs.Reading.{Stop, Read, ◌>>=◌, sees, token_at, list_at}
-use Rattle.pm_lexer.proofs.Phrases.{Phrase, Next, Avoids, Heads, Reader, Nothing, NotOther, Able, Began}
-use Rattle.pm_lexer.proofs.Readers.{Then, Or, Same, pure_reader, then_reader, then_began, same_reader, same_began, map_reader, token_reader, first_began, second_began}
+use Rattle.pm_lexer.specs.Language.{Gate, Is, IsList}
+use Rattle.pm_lexer.specs.Reading.{◌>>=◌, token_at}
+use Rattle.pm_lexer.proofs.Phrases.{Phrase, Next, Reader, Nothing, Began}
+use Rattle.pm_lexer.proofs.Readers.{Then, Or, pure_reader, then_reader, then_began, same_reader, map_reader, token_reader, first_began, second_began}
 use Rattle.pm_lexer.proofs.Lists.{Peek}
 use Rattle.pm_lexer.proofs.Furthers.{choice_reader, behind_reader, list_reader, token_peek}
 use Rattle.pm_syntax.specs.declared.tree.Comparison.TheVariants as comparison
-use Rattle.pm_syntax.specs.declared.tree.Literal.{Literal}
 use Rattle.pm_syntax.specs.declared.tree.Literal.TheVariants as literal
 use Rattle.pm_syntax.specs.declared.tree.Atom.{Atom}
 use Rattle.pm_syntax.specs.declared.tree.Atom.TheVariants as atom
@@ -21,10 +20,10 @@ use Rattle.pm_syntax.specs.declared.tree.Test.TheVariants as test
 use Rattle.pm_syntax.specs.Terminals.{comparison_of, comparison_of_symbol, compares, magnitude}
 use Rattle.pm_syntax.specs.Grammar.{IsLiteral, IsOperand, IsOptional, IsCompare, IsNullTest, IsIn, IsBetween, IsTest}
 use Rattle.pm_syntax.specs.Reading.{literal_at, operand_at, optional_at, literals_at, compare_behind, null_behind, in_behind, between_behind, range_behind, test_behind, test_at, begins_literal, begins_test}
-use Rattle.pm_syntax.proofs.Tokens.{is_symbol, two_symbols, sample, stands_name, stands_open, stands_close, stands_comma, equal_compares, stands_is, stands_not, stands_null, stands_in, stands_between, stands_and, stands_number, symbol_reader}
-use Rattle.pm_syntax.proofs.Sets.{AnyOf, FirstIn, Begins, begins_is, widened, not_other, none_other, none_stops, apart, in_set, within}
-use Rattle.pm_syntax.proofs.Helpers.{maybe_reader, token_began}
-use Rattle.pm_syntax.proofs.ExprReaders.{LiteralFirst, literal_begins, literal_reader, literal_same, OperandFirst, operand_begins, operand_reader, Termed, Literals, term_began}
+use Rattle.pm_syntax.proofs.Tokens.{is_symbol, two_symbols, sample, stands_open, stands_close, stands_comma, equal_compares, stands_is, stands_not, stands_null, stands_in, stands_between, stands_and, stands_number, symbol_reader}
+use Rattle.pm_syntax.proofs.Sets.{AnyOf, Begins, not_other, none_other, apart}
+use Rattle.pm_syntax.proofs.Helpers.{maybe_reader}
+use Rattle.pm_syntax.proofs.ExprReaders.{LiteralFirst, literal_begins, literal_reader, OperandFirst, operand_begins, operand_reader, Termed, Literals, term_began}
 
 -- a literal may begin with each of its first tokens
 either : (a b : Bool) → (a || b) ≡ true → (a ≡ true) ⊎ (b ≡ true)

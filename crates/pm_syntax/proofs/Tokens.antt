@@ -1,6 +1,6 @@
 -- Readers of single tokens, and what two symbols say of one token.
-use Rattle.std.proofs.Common.{◌≡◌, ◌⊎◌, ℕ, Bool, true, false, List, [], ◌∷◌, ◌++◌, drop, Result, Ok, Err, Option, Some, None, refl, sym, ◌∙◌, ap, inl, inr, rules, arith, if◌then◌else◌, ◌||◌, codes}
-use denote.Enum.Bare.{same_true, same_false}
+use Rattle.std.proofs.Common.{◌≡◌, ℕ, true, false, List, [], ◌∷◌, refl, sym, rules, codes}
+use denote.Enum.Bare.{same_true}
 use Rattle.pm_lexer.specs.contracts.symbol.Symbol.{the_type}
 use Rattle.pm_lexer.specs.declared.token.Token.{Token}
 use Rattle.pm_lexer.specs.declared.token.TokenKind.TheVariants as kind
@@ -8,10 +8,10 @@ use Rattle.pm_lexer.specs.declared.symbol.Symbol.{Symbol}
 use Rattle.pm_lexer.specs.declared.symbol.Symbol.TheVariants as symbol
 use Rattle.pm_lexer.specs.Symbol.{symbol_of, same_symbol, is, spelling, reserved_word, canonical_sign}
 use Rattle.pm_syntax.specs.Terminals.{compares}
-use Rattle.pm_lexer.specs.Language.{Lang, Gate, Is}
+use Rattle.pm_lexer.specs.Language.{Is}
 use Rattle.pm_lexer.specs.Reading.{Read, ◌>>=◌, sees, token_at}
-use Rattle.pm_lexer.proofs.Phrases.{Phrase, Next, Avoids, Heads, Reader, Nothing, NotOther, Able}
-use Rattle.pm_lexer.proofs.Readers.{Then, token_reader, not_seen, token_able}
+use Rattle.pm_lexer.proofs.Phrases.{Phrase, Next, Heads, Reader}
+use Rattle.pm_lexer.proofs.Readers.{Then, token_reader}
 
 -- a token is its symbol
 pub is_symbol : (s : Symbol) (t : Token) → is s t ≡ true → symbol_of t ≡ s

@@ -1,16 +1,16 @@
 -- What the reading of a whole statement says of the grammar.
-use Rattle.std.proofs.Common.{◌≡◌, ◌≤◌, ◌<◌, ℕ, suc, List, [], ◌∷◌, ◌++◌, length, Ok, Err, Result, refl, sym, ◌∙◌, arith, append_assoc, MatchResult, IfOk, IsErrOf}
+use Rattle.std.proofs.Common.{◌≡◌, ◌≤◌, ℕ, suc, List, [], ◌∷◌, ◌++◌, length, Ok, Err, Result, refl, sym, ◌∙◌, arith, append_assoc, MatchResult, IfOk, IsErrOf}
 use Rattle.std.proofs.lemmas.List.{append-nil}
 use Rattle.pm_lexer.specs.declared.token.Token.{Token}
 use Rattle.pm_lexer.specs.Language.{Gate, never, always}
 use Rattle.pm_lexer.specs.Reading.{Stop, expected, too_deep, too_many, Read, place_of}
-use Rattle.pm_lexer.proofs.Phrases.{Next, Avoids, Heads, heads_same, Law, Began, Cause, no_phrase, deeper, longer, stop_at, Where, Goes, GoesOn, Fault, Nothing}
+use Rattle.pm_lexer.proofs.Phrases.{Next, Avoids, Heads, heads_same, Law, Began, Cause, no_phrase, deeper, longer, stop_at, Where, Goes, Nothing}
 use Rattle.pm_syntax.specs.declared.tree.Select.{Select}
 use Rattle.pm_syntax.specs.declared.fault.SynBad.{SynBad}
 use Rattle.pm_syntax.specs.declared.fault.SynBad.TheVariants as bad
 use Rattle.pm_syntax.specs.Grammar.{IsSelect}
-use Rattle.pm_syntax.specs.Reading.{select_at, whole, Gives, Fails}
-use Rattle.pm_syntax.specs.Statement.{Whole, Reads, from, Begins, None, ExpectedAt, TooDeepAt, TooManyAt}
+use Rattle.pm_syntax.specs.Reading.{select_at, whole, Gives}
+use Rattle.pm_syntax.specs.Statement.{Whole, Reads, from, Begins, ExpectedAt, TooDeepAt, TooManyAt}
 use Rattle.pm_syntax.proofs.SelectReaders.{select_reader}
 
 free : (next : Next Select) → Avoids Nothing next
