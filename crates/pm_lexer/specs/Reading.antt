@@ -1,0 +1,47 @@
+-- What a reader answers, token by token.
+use Rattle.std.specs.Prelude.{◌≡◌, ℕ, zero, suc, Bool, true, false, if◌then◌else◌, List, [], ◌∷◌, ◌++◌, Result, Ok, Err, length, drop, nat_le}
+use Rattle.pm_lexer.specs.declared.token.Token.{Token}
+
+-- why reading stops, and at which place: no phrase begins like this, or only a deeper one, or only one with a longer list
+pub data Stop : Type 0 where
+  expected : ℕ → Stop
+  too_deep : ℕ → Stop
+  too_many : ℕ → Stop
+
+-- a value and the tokens behind its phrase
+abbrev pub Read : Type 0 → Type 0
+Read A = Result (A × List Token) Stop
+
+infixl 10 ◌>>=◌
+abbrev pub ◌>>=◌ : {A B : Type 0} → Result A Stop → (A → Result B Stop) → Result B Stop
+(Ok x) >>= f = f x
+(Err e) >>= f = Err e
+
+-- where a list of tokens goes on
+abbrev pub place_of : List Token → ℕ
+place_of [] = 0
+place_of (t ∷ ts) = t.at
+
+-- whether a token that passes the test comes next
+abbrev pub sees : (Token → Bool) → List Token → Bool
+sees test [] = false
+sees test (t ∷ ts) = test t
+
+abbrev pub token_at : (Token → Bool) → List Token → Read Token
+token_at test [] = Err (expected 0)
+token_at test (t ∷ ts) = if test t then Ok (t, ts) else Err (expected t.at)
+
+-- an entry, or why there is none past the limit
+abbrev pub entry_at : {A : Type 0} → Bool → (List Token → Read Token) → (List Token → Read A) → List Token → Read A
+entry_at past peek p ts = if past then (peek ts >>= λ _. Err (too_many (place_of ts))) else p ts
+
+-- further entries behind separators, in at most so many turns
+unfoldable pub more_at : {A S : Type 0} → (Token → Bool) → (List Token → Read S) → (List Token → Read Token) → (S → List Token → Read A) → ℕ → ℕ → List A → List Token → Read (List A)
+more_at starts sep peek p limit zero before ts = Ok (before, ts)
+more_at starts sep peek p limit (suc n) before ts =
+    if sees starts ts
+    then (sep ts >>= λ s. (entry_at (nat_le limit (length before)) peek (p s.0) s.1 >>= λ a. more_at starts sep peek p limit n (before ++ a.0 ∷ []) a.1))
+    else Ok (before, ts)
+
+unfoldable pub list_at : {A : Type 0} → (Token → Bool) → (List Token → Read Token) → (List Token → Read A) → ℕ → List Token → Read (List A)
+list_at sep peek p limit ts = p ts >>= λ first. more_at sep (token_at sep) peek (λ _. p) limit (length first.1) (first.0 ∷ []) first.1

@@ -1,0 +1,18 @@
+//! Tokens of schema and query texts: `lex` gives the tokens of a text exactly where it has tokens, and else the
+//! refusal with the least place. Beside it stands what a grammar sees of a token, its `Symbol`, and the text that
+//! a quoted token stands for. A theory of readers of token lists is in specs/ and proofs/.
+#![tactic(auto)]
+
+pub mod fault;
+pub mod head;
+pub mod lexing;
+pub mod symbol;
+pub mod token;
+pub mod unquote;
+
+pub use fault::LexBad;
+pub use head::decimals_len;
+pub use lexing::lex;
+pub use symbol::Symbol;
+pub use token::{Token, TokenKind, Tokens};
+pub use unquote::content;

@@ -1,0 +1,215 @@
+ghost use Rattle.std.specs.Prelude.{◌≡◌, length, nat_le, Ok, [], ◌∷◌};
+ghost use Rattle.std.specs.Option.{option_copied};
+ghost use Rattle.pm_lexer.specs.declared.symbol.Symbol.TheVariants as symbol;
+ghost use Rattle.pm_lexer.specs.Symbol.{is};
+ghost use Rattle.pm_lexer.specs.Reading.{token_at, entry_at, more_at, sees};
+ghost use Rattle.pm_syntax.specs.Reading.{Gives, items_at, join_at, joins, on_at, source_at, sources_at, where_at, having_at, groups_at, orders_at, select_at, whole};
+
+use crate::conditions::condition;
+use crate::entries::given;
+use crate::fault::SynBad;
+use crate::lists::list;
+use crate::terminals::{behind, is, name, optional, place, sees, token};
+use crate::tree::{ColumnNames, Items, OrderItems, Select, Source, Sources, Test};
+use pm_lexer::{Symbol, Token, Tokens};
+use std::alloc::Global;
+
+/// At most so many entries stand in SELECT, FROM, GROUP BY and ORDER BY.
+const ENTRIES: usize = 64;
+
+/// At most so many parentheses and NOTs of a condition are open.
+const OPEN: u32 = 32;
+
+// items = "*" | item { "," item }
+#[tactic(auto, unfolding(crate::specs::Reading::items_at))]
+fn items(alloc: Global, tokens: &[Token]) -> Result<(Items, &[Token]), SynBad>
+    ensures { Gives (λ x. (x.0, x.1.now)) result (items_at tokens.now) }
+{
+    if sees(Symbol::Star, tokens) {
+        let (star, rest) = token(Symbol::Star, tokens)?;
+        let at = star.at;
+        return Ok((Items::All { at }, rest));
+    }
+    let (list, rest) = list(alloc, ENTRIES, tokens)?;
+    Ok((Items::List(list), rest))
+}
+
+// Whether a comma or a join comes next.
+fn joins(tokens: &[Token]) -> bool
+    ensures { result ≡ sees joins tokens.now }
+{
+    match tokens {
+        [] => false,
+        [token, ..] => is(Symbol::Comma, token) || is(Symbol::Join, token) || is(Symbol::Inner, token),
+    }
+}
+
+// "," | [ INNER ] JOIN: whether it is a join
+#[tactic(auto, unfolding(crate::specs::Reading::join_at))]
+fn join(tokens: &[Token]) -> Result<(bool, &[Token]), SynBad>
+    ensures { Gives (λ x. (x.0, x.1.now)) result (join_at tokens.now) }
+{
+    if let Some(rest) = behind(Symbol::Comma, tokens) {
+        return Ok((false, rest));
+    }
+    if let Some(rest) = behind(Symbol::Inner, tokens) {
+        let (_, rest) = token(Symbol::Join, rest)?;
+        return Ok((true, rest));
+    }
+    let (_, rest) = token(Symbol::Join, tokens)?;
+    Ok((true, rest))
+}
+
+// ON cond, where the source is joined
+#[tactic(auto, unfolding(crate::specs::Reading::on_at))]
+fn on(alloc: Global, joined: bool, tokens: &[Token]) -> Result<(Option<Test>, &[Token]), SynBad>
+    ensures { Gives (λ x. (x.0, x.1.now)) result (on_at 32 joined tokens.now) }
+{
+    if joined {
+        let (_, rest) = token(Symbol::On, tokens)?;
+        let (cond, rest) = condition(alloc, false, OPEN, rest)?;
+        return Ok((Some(cond), rest));
+    }
+    Ok((None, tokens))
+}
+
+// source = name [ [ AS ] name ], with its condition where it is joined
+#[tactic(auto, unfolding(crate::specs::Reading::source_at))]
+fn source(alloc: Global, joined: bool, tokens: &[Token]) -> Result<(Source, &[Token]), SynBad>
+    ensures { Gives (λ x. (x.0, x.1.now)) result (source_at 32 joined tokens.now) }
+{
+    let (table, rest) = name(alloc, tokens)?;
+    let (alias, rest) = given(alloc, rest)?;
+    let (on, rest) = on(alloc, joined, rest)?;
+    Ok((Source { table, alias, on }, rest))
+}
+
+// A further source, or why there is none past the limit.
+fn next_source(alloc: Global, past: bool, joined: bool, tokens: &[Token]) -> Result<(Source, &[Token]), SynBad>
+    ensures { Gives (λ x. (x.0, x.1.now)) result (entry_at past (token_at (is symbol.Name)) (source_at 32 joined) tokens.now) }
+{
+    if past {
+        let (_, _) = token(Symbol::Name, tokens)?;
+        return Err(SynBad::TooMany(place(tokens)));
+    }
+    source(alloc, joined, tokens)
+}
+
+// Further sources.
+fn more_sources(alloc: Global, mut list: Sources, mut rest: &[Token]) -> Result<(Sources, &[Token]), SynBad>
+    ensures { Gives (λ x. (x.0, x.1.now)) result (more_at joins join_at (token_at (is symbol.Name)) (source_at 32) 64 (length rest.entry.now) list rest.entry.now) }
+{
+    'sources: for _ in 0..rest.len() {
+        if !joins(rest) {
+            return Ok((list, rest));
+        }
+        let (joined, behind) = join(rest)?;
+        let (next, after) = next_source(alloc, list.len() >= ENTRIES, joined, behind)?;
+        list.push(next)?;
+        rest = after;
+    }
+    Ok((list, rest))
+}
+
+// sources = source { "," source | [ INNER ] JOIN source ON cond }
+#[tactic(auto, unfolding(crate::specs::Reading::sources_at))]
+fn sources(alloc: Global, tokens: &[Token]) -> Result<(Sources, &[Token]), SynBad>
+    ensures { Gives (λ x. (x.0, x.1.now)) result (sources_at 32 tokens.now) }
+{
+    let mut list = Sources::new(alloc);
+    let (first, rest) = source(alloc, false, tokens)?;
+    list.push(first)?;
+    more_sources(alloc, list, rest)
+}
+
+// [ WHERE cond ]
+#[tactic(auto, unfolding(crate::specs::Reading::where_at))]
+fn filter(alloc: Global, tokens: &[Token]) -> Result<(Option<Test>, &[Token]), SynBad>
+    ensures { Gives (λ x. (x.0, x.1.now)) result (where_at 32 tokens.now) }
+{
+    let Some(rest) = behind(Symbol::Where, tokens) else {
+        return Ok((None, tokens));
+    };
+    let (cond, rest) = condition(alloc, false, OPEN, rest)?;
+    Ok((Some(cond), rest))
+}
+
+// [ GROUP BY column { "," column } ]
+#[tactic(auto, unfolding(crate::specs::Reading::groups_at))]
+fn groups(alloc: Global, tokens: &[Token]) -> Result<(ColumnNames, &[Token]), SynBad>
+    ensures { Gives (λ x. (x.0, x.1.now)) result (groups_at tokens.now) }
+{
+    let Some(rest) = behind(Symbol::Group, tokens) else {
+        return Ok((ColumnNames::new(alloc), tokens));
+    };
+    let (_, rest) = token(Symbol::By, rest)?;
+    list(alloc, ENTRIES, rest)
+}
+
+// [ HAVING cond ]
+#[tactic(auto, unfolding(crate::specs::Reading::having_at))]
+fn having(alloc: Global, tokens: &[Token]) -> Result<(Option<Test>, &[Token]), SynBad>
+    ensures { Gives (λ x. (x.0, x.1.now)) result (having_at 32 tokens.now) }
+{
+    let Some(rest) = behind(Symbol::Having, tokens) else {
+        return Ok((None, tokens));
+    };
+    let (cond, rest) = condition(alloc, true, OPEN, rest)?;
+    Ok((Some(cond), rest))
+}
+
+// [ ORDER BY key { "," key } ]
+#[tactic(auto, unfolding(crate::specs::Reading::orders_at))]
+fn orders(alloc: Global, tokens: &[Token]) -> Result<(OrderItems, &[Token]), SynBad>
+    ensures { Gives (λ x. (x.0, x.1.now)) result (orders_at tokens.now) }
+{
+    let Some(rest) = behind(Symbol::Order, tokens) else {
+        return Ok((OrderItems::new(alloc), tokens));
+    };
+    let (_, rest) = token(Symbol::By, rest)?;
+    list(alloc, ENTRIES, rest)
+}
+
+// A whole statement.
+#[tactic(auto, unfolding(crate::specs::Reading::select_at))]
+fn select(alloc: Global, tokens: &[Token]) -> Result<(Select, &[Token]), SynBad>
+    ensures { Gives (λ x. (x.0, x.1.now)) result (select_at 32 tokens.now) }
+{
+    let (_, rest) = token(Symbol::Select, tokens)?;
+    let (distinct, rest) = optional(Symbol::Distinct, rest);
+    let distinct = distinct.is_some();
+    let (items, rest) = items(alloc, rest)?;
+    let (_, rest) = token(Symbol::From, rest)?;
+    let (sources, rest) = sources(alloc, rest)?;
+    let (filter, rest) = filter(alloc, rest)?;
+    let (groups, rest) = groups(alloc, rest)?;
+    let (having, rest) = having(alloc, rest)?;
+    let (orders, rest) = orders(alloc, rest)?;
+    let (_, rest) = optional(Symbol::Semicolon, rest);
+    let (_, rest) = token(Symbol::End, rest)?;
+    let found = Select {
+        distinct,
+        items,
+        sources,
+        filter,
+        groups,
+        having,
+        orders,
+    };
+    Ok((found, rest))
+}
+
+fn whole(alloc: Global, tokens: &[Token]) -> Result<Select, SynBad>
+    ensures { Gives (λ s. s) result (whole (select_at 32 tokens.now)) }
+{
+    let (found, rest) = select(alloc, tokens)?;
+    match rest {
+        [] => Ok(found),
+        [token, ..] => Err(SynBad::Expected(token.at)),
+    }
+}
+
+/// The statement that the tokens are.
+pub fn parse(alloc: Global, tokens: &Tokens) -> Result<Select, SynBad> {
+    whole(alloc, tokens.as_slice())
+}
