@@ -6,3 +6,4 @@ pub mod Phrases
 pub mod Quotation
 pub mod Readers
 pub mod Walk
+pub mod Turns
