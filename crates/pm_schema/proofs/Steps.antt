@@ -1,5 +1,5 @@
 -- One turn of the reading of a body, and what fails with what.
-use Rattle.std.proofs.Common.{◌≡◌, ◌<◌, ◌+◌, ◌-◌, ℕ, zero, suc, Bool, true, false, List, [], ◌∷◌, ◌++◌, drop, length, Ok, Err, Result, refl, sym, ◌∙◌, ap, arith, if◌then◌else◌}
+use Rattle.std.proofs.Common.{◌≡◌, ◌<◌, ◌+◌, ◌-◌, ℕ, zero, suc, Bool, true, false, List, [], ◌∷◌, ◌++◌, drop, length, Ok, Err, Result, refl, sym, ◌∙◌, ap, arith, append_assoc, append-nil, if◌then◌else◌}
 use Rattle.pm_lexer.specs.declared.token.Token.{Token}
 use Rattle.pm_lexer.specs.declared.symbol.Symbol.TheVariants as symbol
 use Rattle.pm_lexer.specs.Symbol.{is}
@@ -52,3 +52,12 @@ further_took n m before ts a rest e s k o h = rw (further_goes n m before ts e s
 pub further_fails : (n m : ℕ) (before : List ColumnText) (ts : List Token) (stop : Stop) → n ≡ m + 1 → sees (is symbol.Comma) ts ≡ true → sees (stands terminal.Key) (drop 1 ts) ≡ false → sees (is symbol.Order) (drop 1 ts) ≡ false
     → next_column_at before (drop 1 ts) ≡ Err stop → further_at n before ts ≡ Err stop
 further_fails n m before ts stop e s k o h = rw (further_goes n m before ts e s k o, h) refl
+
+-- one token more as the grammar sees it
+pub keyed_step : (seen : List Token) (t : Token) (rest after : List Token) → rest ≡ t ∷ after → (seen ++ keyed_before after t ∷ []) ++ keyed after ≡ seen ++ keyed rest
+unfolding keyed
+keyed_step seen t rest after e = rw (e, append_assoc) refl
+
+pub keyed_ends : (seen rest : List Token) → rest ≡ [] → seen ≡ seen ++ keyed rest
+unfolding keyed
+keyed_ends seen rest e = rw (e, append-nil) refl
