@@ -1,3 +1,5 @@
 pub mod Terminals
 pub mod Grammar
 pub mod Reading
+pub mod Answers
+pub mod Rules

@@ -6,13 +6,13 @@ use crate::tree::{Terminal, Word};
 use pm_lexer::{Symbol, Token, TokenKind, Tokens};
 use std::alloc::{AllocError, Global};
 
-// The first token, and what follows it.
-fn first(tokens: &[Token]) -> Option<(&Token, &[Token])>
-    ensures { MatchOption result (tokens.now ≡ []) (λ x. tokens.now ≡ x.0.now ∷ x.1.now) }
+// The first item, and what follows it.
+pub(crate) fn first<T>(items: &[T]) -> Option<(&T, &[T])>
+    ensures { MatchOption result (items.now ≡ []) (λ x. items.now ≡ x.0.now ∷ x.1.now) }
 {
-    match tokens {
+    match items {
         [] => None,
-        [token, rest @ ..] => Some((token, rest)),
+        [item, rest @ ..] => Some((item, rest)),
     }
 }
 

@@ -9,5 +9,7 @@ pub mod terminals;
 pub mod keyed;
 pub mod columns;
 pub mod tables;
+pub mod read;
+pub mod rules;
 
 pub use fault::SchemaBad;
