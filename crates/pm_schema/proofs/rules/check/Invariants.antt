@@ -4,7 +4,7 @@ use Rattle.pm_schema.proofs.rules.check.Given as goal
 
 abbrev pub invariant-items : goal.invariant-items
 invariant-items g l = record {
-  found : fold earlier l.found (breaches_from g.N.Named.name_of l.rule l.columns l.items l.i l.rest) ≡ fold earlier l.initial.so_far (breaches g.N.Named.name_of l.rule l.columns l.items);
+  found : fold earlier l.found (breaches_from g.N.Named.name_of l.rule l.columns l.items l.i l.rest) ≡ fold earlier l.initial.found (breaches g.N.Named.name_of l.rule l.columns l.items);
   place : l.i + length l.rest ≡ length l.items;
 }
 
