@@ -11,5 +11,8 @@ pub mod columns;
 pub mod tables;
 pub mod read;
 pub mod rules;
+pub mod declared;
+pub mod schema;
 
 pub use fault::SchemaBad;
+pub use schema::{Schema, read_schema};
