@@ -1,5 +1,5 @@
 -- What tables that keep the rules declare, and when tokens are a schema or break a rule.
-use Rattle.std.specs.Prelude.{◌≡◌, ◌⊎◌, ◌+◌, ℕ, List, [], ◌∷◌, Option, Some, None, map, if◌then◌else◌}
+use Rattle.std.specs.Prelude.{◌≡◌, ◌⊎◌, ◌+◌, ℕ, List, [], ◌∷◌, Option, Some, None, Result, Ok, Err, map, if◌then◌else◌}
 use Rattle.std.specs.Str.{bytes_eq}
 use Rattle.pm_lexer.specs.declared.token.Token.{Token}
 use Rattle.pm_values.specs.declared.table.ColumnDecl.{ColumnDecl}
@@ -59,3 +59,10 @@ refusal_by rule.NullKey p = bad.NullKey p
 
 abbrev pub refusal : Breach → SchemaBad
 refusal breach = refusal_by breach.rule breach.at
+
+-- what is answered of tables that were read, by the first breach of a rule
+abbrev pub Judges : Option Breach → List TableText → Result (List TableDecl) SchemaBad → Type 0
+Judges None tables (Ok schema) = schema ≡ declared tables
+Judges None tables (Err e) = e ≡ bad.Memory
+Judges (Some breach) tables (Ok schema) = ⊥
+Judges (Some breach) tables (Err e) = e ≡ refusal breach

@@ -17,10 +17,10 @@ fn column_number(columns: &[ColumnText], text: &[u8]) -> Result<u32, AllocError>
         if column.name.text.bytes() == text {
             return Ok(number);
         }
-        let Some(next) = number.checked_add(1) else {
+        if number == u32::MAX {
             return Err(AllocError);
-        };
-        number = next;
+        }
+        number += 1;
         rest = after;
     }
     Ok(number)

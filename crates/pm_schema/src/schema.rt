@@ -5,12 +5,13 @@ ghost use Rattle.pm_schema.specs.declared.rules.Breach.{Breach};
 ghost use Rattle.pm_schema.specs.declared.tree.TableText.{TableText};
 ghost use Rattle.pm_schema.specs.Answers.{Reads, ExpectedAt, TooManyAt};
 ghost use Rattle.pm_schema.specs.Rules.{first_breach};
-ghost use Rattle.pm_schema.specs.Meaning.{declared, Declares, Breaks, refusal};
+ghost use Rattle.pm_schema.specs.Meaning.{declared, Declares, Breaks, refusal, Judges};
 
 use crate::declared::declared;
 use crate::fault::{ReadBad, SchemaBad};
 use crate::read::read_tables;
 use crate::rules::{Breach, Rule, first_breach};
+use crate::tree::TableText;
 use pm_lexer::Tokens;
 use pm_values::TableDecls;
 use std::alloc::Global;
@@ -27,6 +28,16 @@ fn refusal(breach: Breach) -> SchemaBad
         Rule::DoubleColumn => SchemaBad::DoubleColumn(breach.at),
         Rule::KeyColumn => SchemaBad::KeyColumn(breach.at),
         Rule::NullKey => SchemaBad::NullKey(breach.at),
+    }
+}
+
+// What the tables declare, where they keep the rules.
+fn judged(alloc: Global, tables: &[TableText]) -> Result<Schema, SchemaBad>
+    ensures { Judges (first_breach tables.now) tables.now result }
+{
+    match first_breach(tables) {
+        Some(breach) => Err(refusal(breach)),
+        None => Ok(declared(alloc, tables)?),
     }
 }
 
@@ -49,14 +60,10 @@ pub fn read_schema(alloc: Global, tokens: &Tokens) -> Result<Schema, SchemaBad>
     ensures key_column { (p : ℕ) → IsErrOf result (bad.KeyColumn p) → Breaks tokens.now rule.KeyColumn p }
     ensures null_key { (p : ℕ) → IsErrOf result (bad.NullKey p) → Breaks tokens.now rule.NullKey p }
 {
-    let tables = match read_tables(alloc, tokens) {
-        Ok(tables) => tables,
-        Err(ReadBad::Expected(at)) => return Err(SchemaBad::Expected(at)),
-        Err(ReadBad::TooMany(at)) => return Err(SchemaBad::TooMany(at)),
-        Err(ReadBad::Memory) => return Err(SchemaBad::Memory),
-    };
-    if let Some(breach) = first_breach(tables.as_slice()) {
-        return Err(refusal(breach));
+    match read_tables(alloc, tokens) {
+        Ok(tables) => judged(alloc, tables.as_slice()),
+        Err(ReadBad::Expected(at)) => Err(SchemaBad::Expected(at)),
+        Err(ReadBad::TooMany(at)) => Err(SchemaBad::TooMany(at)),
+        Err(ReadBad::Memory) => Err(SchemaBad::Memory),
     }
-    Ok(declared(alloc, tables.as_slice())?)
 }
