@@ -18,12 +18,12 @@ pub record Parts {A S : Type 0} (T SP : Token → Type 0) (Sep : Phrase S) (P : 
   pub apart : (d : ℕ) (g : Gate) (next : Next S) (t : Token) (ts : List Token) → SP t → Sep d g next (t ∷ ts) → ⊥
   pub within : (t : Token) → SP t → T t
 
-seen_head : {A : Type 0} (T : Token → Type 0) (test : Token → Bool) (ts w : List Token) (next : Next A) (a : A) → sees test ts ≡ true → ((t : Token) → test t ≡ true → T t) → Avoids T next → Heads ts w → next a w → ⊥
+pub seen_head : {A : Type 0} (T : Token → Type 0) (test : Token → Bool) (ts w : List Token) (next : Next A) (a : A) → sees test ts ≡ true → ((t : Token) → test t ≡ true → T t) → Avoids T next → Heads ts w → next a w → ⊥
 seen_head T test [] w next a e inT avoids heads h = absurd (let bad : false ≡ true = e in cc)
 seen_head T test (t ∷ ts) [] next a e inT avoids heads h = heads
 seen_head T test (t ∷ ts) (u ∷ us) next a e inT avoids heads h = avoids a u us (rw heads (inT t e)) h
 
-no_longer : {A : Type 0} {S : Token → Type 0} {P : Phrase A} {d : ℕ} (ts : List Token) (x : A × List Token) → Taken S P d ts x → length x.1 ≤ length ts
+pub no_longer : {A : Type 0} {S : Token → Type 0} {P : Phrase A} {d : ℕ} (ts : List Token) (x : A × List Token) → Taken S P d ts x → length x.1 ≤ length ts
 no_longer ts x t = rw t.is (omega (arith, length-append t.front x.1))
 
 -- a separator is not empty
@@ -45,7 +45,7 @@ nothing_left : (ts : List Token) → length ts ≤ 0 → sees (λ _. true) ts �
 nothing_left [] le = refl
 nothing_left (t ∷ ts) le = absurd (omega arith)
 
-none_seen : (test : Token → Bool) (ts : List Token) → length ts ≤ 0 → sees test ts ≡ false
+pub none_seen : (test : Token → Bool) (ts : List Token) → length ts ≤ 0 → sees test ts ≡ false
 none_seen test [] le = refl
 none_seen test (t ∷ ts) le = absurd (omega arith)
 
@@ -66,17 +66,17 @@ goes_law {A} {S} {T} {SP} {Sep} {P} {starts} {sep} {peek} {p} {d} limit k before
     (second_law T (None before) (ThenSome Sep (Entry limit Sep P before)) d ts (sep ts >>= q) (λ d' g next w avoids heads h. seen_head T starts ts w next before e k.ends_list avoids heads h)
     (some_law T Nothing Sep (Entry limit Sep P before) d ts (sep ts) q (k.reads_sep.law ts) law (λ s. entry_able limit Sep P before s d (k.reads s).able) (λ a d' g next avoids t us s h. s)))
 
-past : (limit n : ℕ) → nat_le limit n ≡ true → limit ≤ n
+pub past : (limit n : ℕ) → nat_le limit n ≡ true → limit ≤ n
 past limit n e = grind (arith, nat_tests)
 
-not_past : (limit n : ℕ) → nat_le limit n ≡ false → n < limit
+pub not_past : (limit n : ℕ) → nat_le limit n ≡ false → n < limit
 not_past limit n e = grind (arith, nat_tests)
 
 -- what is refused is refused, whatever would be read behind it
-abbrev Refused : {A : Type 0} → Read Token → Stop → Read A
+abbrev pub Refused : {A : Type 0} → Read Token → Stop → Read A
 Refused r stop = r >>= λ _. Err stop
 
-refused_bind : {A B : Type 0} (r : Read Token) (stop : Stop) (f : A × List Token → Read B) → (Refused {A = A} r stop >>= f) ≡ Refused {A = B} r stop
+pub refused_bind : {A B : Type 0} (r : Read Token) (stop : Stop) (f : A × List Token → Read B) → (Refused {A = A} r stop >>= f) ≡ Refused {A = B} r stop
 refused_bind (Ok x) stop f = refl
 refused_bind (Err e) stop f = refl
 

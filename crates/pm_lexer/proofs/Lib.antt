@@ -1,8 +1,11 @@
 pub mod Boundary
 pub mod QuoteEnds
 pub mod Furthers
+pub mod Firsts
 pub mod Lists
 pub mod Phrases
 pub mod Quotation
 pub mod Readers
 pub mod Walk
+pub mod Repeats
+pub mod Turns

@@ -1,0 +1,9 @@
+use Rattle.std.proofs.Common.{◌≡◌, ◌++◌, ◌+◌, length, map}
+use Rattle.pm_schema.specs.Meaning.{column_number, number_in, declared_column, declared_table}
+use Rattle.pm_schema.proofs.declared.declared.Given as goal
+
+abbrev pub invariant-tables : goal.invariant-tables
+invariant-tables l = l.decls ++ map declared_table l.rest ≡ map declared_table l.initial.tables
+
+abbrev pub decreases-tables : goal.decreases-tables
+decreases-tables l = length l.rest

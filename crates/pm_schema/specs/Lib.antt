@@ -1,0 +1,6 @@
+pub mod Terminals
+pub mod Grammar
+pub mod Reading
+pub mod Answers
+pub mod Rules
+pub mod Meaning
