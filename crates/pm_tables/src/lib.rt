@@ -1,0 +1,6 @@
+//! The bytes of a CSV file to a typed table: records, the values of their fields, KEY and ORDER.
+//!
+//! A table comes exactly where the bytes and the declaration have one, and else the first fault of the file.
+#![tactic(auto)]
+
+mod field;
