@@ -3,4 +3,9 @@
 //! A table comes exactly where the bytes and the declaration have one, and else the first fault of the file.
 #![tactic(auto)]
 
+mod fault;
 mod field;
+mod records;
+
+pub use fault::DataBad;
+pub use records::Records;
