@@ -2,3 +2,4 @@ pub mod Digits
 pub mod Decimals
 pub mod Values
 pub mod Cuts
+pub mod Rows

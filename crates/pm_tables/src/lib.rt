@@ -6,6 +6,8 @@
 mod fault;
 mod field;
 mod records;
+mod typing;
 
 pub use fault::DataBad;
 pub use records::Records;
+pub use typing::type_rows;
