@@ -3,3 +3,5 @@ pub mod Decimals
 pub mod Values
 pub mod Cuts
 pub mod Rows
+pub mod AllRecords
+pub mod HasRead

@@ -1,3 +1,5 @@
 pub mod Field
 pub mod Records
 pub mod Typing
+pub mod Reading
+pub mod HasRead

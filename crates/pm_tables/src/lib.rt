@@ -5,6 +5,7 @@
 
 mod fault;
 mod field;
+mod reading;
 mod records;
 mod typing;
 

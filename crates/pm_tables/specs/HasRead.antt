@@ -1,0 +1,21 @@
+-- how far a reader of CSV has come
+use Rattle.std.specs.Prelude.{◌≡◌, ◌++◌, ◌∷◌, [], ℕ, Bool, true, false, List, Some}
+use Rattle.std.specs.Borrow.{Bor}
+use Rattle.csv.specs.Reading.{Reached, Ready, default_config, reader_config, reader_state, reader_trim, records, source_of}
+use Rattle.csv.specs.declared.parser.State.TheVariants as st
+use Rattle.csv.specs.declared.reader.Reader.{Reader}
+use Rattle.csv.specs.declared.reader.Trim.TheVariants as trim
+
+-- the reader has read these records of the text
+pub record HasRead (text : List ℕ) (rows : List (List (List ℕ))) (reader : Reader (Bor (List ℕ))) : Type 0 where
+  pub untrimmed : reader_trim reader ≡ trim.None
+  pub ready : Ready reader
+  pub config : reader_config reader ≡ default_config
+  pub rest : List ℕ
+  pub source : source_of (λ s. Some s.now) reader ≡ Some rest
+  pub reached : Reached default_config st.StartRecord text rows (reader_state reader) rest
+
+-- a next record was found behind these, or these are all
+abbrev pub Continues : List ℕ → List (List (List ℕ)) → Reader (Bor (List ℕ)) → Bool → List (List ℕ) → Type 0
+Continues text rows reader true fields = HasRead text (rows ++ fields ∷ []) reader
+Continues text rows reader false fields = records default_config text ≡ rows
