@@ -1,8 +1,9 @@
 -- records in one list of fields
-use Rattle.std.proofs.Common.{◌≡◌, ◌∙◌, ◌≤◌, ◌<◌, ◌+◌, ◌-◌, ◌++◌, ℕ, zero, suc, Some, List, [], ◌∷◌, length, get_or, take, drop, refl, sym, ap, arith}
-use Rattle.std.proofs.lemmas.List.{drop-append-le, get_or-drop, get_or-take, length-drop, length-take, length-take-le, take-append-le, take_all}
+use Rattle.std.proofs.Common.{◌≡◌, ◌∙◌, ◌≤◌, ◌<◌, ◌+◌, ◌-◌, ◌++◌, ℕ, zero, suc, Some, List, [], ◌∷◌, length, get_or, take, drop, refl, ap, arith}
+use Rattle.std.proofs.lemmas.List.{drop-append-le, length-append, get_or-drop, get_or-take, length-drop, length-take-le, take-append-le, take_all}
+use Rattle.std.proofs.Math.Seq.{drop-append_seam}
 use Rattle.csv.specs.Records.{Rising, field_at, last_end, prev}
-use Rattle.csv.proofs.RecordFacts.{field-bounds, rising-first, rising-last}
+use Rattle.csv.proofs.RecordFacts.{field-bounds, rising-end, rising-first, rising-last, rising-shrink}
 use Rattle.pm_tables.specs.Records.{cut}
 
 -- one record for each place
@@ -68,3 +69,19 @@ unfolding field_at
 field_there [] i lt = absurd (omega arith)
 field_there (f ∷ fs) zero lt = refl
 field_there (f ∷ fs) (suc i) lt = field_there fs i (omega arith)
+
+rising_more : (ends : List ℕ) (size more : ℕ) → Rising 0 ends size → size ≤ more → Rising 0 ends more
+rising_more ends size more h le = rising-shrink 0 ends size more h (omega (arith, rising-last 0 ends size h, le))
+
+-- one more record at the end
+pub rising_push : (ends : List ℕ) (fields more : List (List ℕ)) → Rising 0 ends (length fields)
+    → Rising 0 (ends ++ length (fields ++ more) ∷ []) (length (fields ++ more))
+rising_push ends fields more h = rising-end 0 ends (length (fields ++ more)) (rising_more ends _ _ h (omega (arith, length-append fields more)))
+
+pub cut_push : (ends : List ℕ) (fields more : List (List ℕ)) → Rising 0 ends (length fields) → last_end 0 ends ≡ length fields
+    → cut 0 (ends ++ length (fields ++ more) ∷ []) (fields ++ more) ≡ cut 0 ends fields ++ more ∷ []
+cut_push ends fields more h whole =
+    let wide = rising_more ends (length fields) (length (fields ++ more)) h (omega (arith, length-append fields more)) in
+    let tail : drop (last_end 0 ends) (fields ++ more) ≡ more = rw whole (drop-append_seam fields more) in
+    cut-end 0 ends (fields ++ more) wide ∙ ap (λ l. l ++ drop (last_end 0 ends) (fields ++ more) ∷ []) (cut-more 0 ends fields more h)
+    ∙ ap (λ t. cut 0 ends fields ++ t ∷ []) tail

@@ -1,5 +1,5 @@
 -- how far a reader has come, after one more read
-use Rattle.std.proofs.Common.{◌≡◌, ◌∙◌, ◌++◌, ◌∷◌, [], ℕ, Bool, true, false, List, Option, Some, inl, Bor}
+use Rattle.std.proofs.Common.{◌≡◌, ◌∙◌, ℕ, Bool, true, false, List, Option, Some, inl, Bor}
 use Rattle.std.specs.Prelude.{Result, Ok, Err, IfOk, IsErrAnd, MatchResult, OnOk}
 use Rattle.csv.specs.Reading.{ReadRecord, Ready, reader_trim, took_first}
 use Rattle.csv.specs.declared.reader.Reader.{Reader}

@@ -5,3 +5,5 @@ pub mod Cuts
 pub mod Rows
 pub mod AllRecords
 pub mod HasRead
+pub mod Headers
+pub mod Files

@@ -1,5 +1,5 @@
 -- the rows that records write, as far as they are read
-use Rattle.std.proofs.Common.{◌≡◌, ◌∙◌, ◌≤◌, ◌<◌, ◌+◌, ◌-◌, ◌++◌, ℕ, zero, suc, List, [], ◌∷◌, length, get_or, take, drop, refl, sym, ap, arith, add-one, slice_range}
+use Rattle.std.proofs.Common.{◌≡◌, ◌∙◌, ◌≤◌, ◌<◌, ◌+◌, ◌-◌, ◌++◌, ℕ, zero, suc, List, [], ◌∷◌, length, get_or, take, drop, ap, arith, add-one, slice_range}
 use Rattle.std.proofs.Math.Seq.{take-length, take-suc}
 use Rattle.std.proofs.lemmas.List.{get_or-drop, length-drop}
 use Rattle.pm_values.specs.declared.value.Value.{Value}

@@ -1,4 +1,7 @@
-use std::alloc::AllocError;
+ghost use Rattle.std.specs.Prelude.{◌≡◌};
+ghost use Rattle.pm_tables.specs.declared.fault.DataBad.TheVariants.{Memory};
+
+use std::alloc::{AllocError, AllocFailed};
 use thiserror::Error;
 
 /// Why a file is no table of its declaration.
@@ -39,12 +42,17 @@ pub enum DataBad {
 }
 
 impl From<AllocError> for DataBad {
-    ghost use Rattle.std.specs.Prelude.{◌≡◌};
-    ghost use Rattle.pm_tables.specs.declared.fault.DataBad.TheVariants.{Memory};
-
     ghost from_gives = { λ _ bad. bad ≡ Memory };
 
     fn from(_error: AllocError) -> Self {
+        DataBad::Memory
+    }
+}
+
+impl<T: Drop> From<AllocFailed<T>> for DataBad {
+    ghost from_gives = { λ _ bad. bad ≡ Memory };
+
+    fn from(_error: AllocFailed<T>) -> Self {
         DataBad::Memory
     }
 }

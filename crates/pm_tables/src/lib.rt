@@ -6,9 +6,10 @@
 mod fault;
 mod field;
 mod reading;
-mod records;
+mod record_list;
 mod typing;
 
 pub use fault::DataBad;
-pub use records::Records;
+pub use reading::records;
+pub use record_list::Records;
 pub use typing::type_rows;

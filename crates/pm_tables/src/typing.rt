@@ -4,7 +4,7 @@ ghost use Rattle.pm_tables.specs.Typing.{FaultsFirst, FaultsRecord, WritesRow, W
 
 use crate::fault::DataBad;
 use crate::field::field_value;
-use crate::records::Records;
+use crate::record_list::Records;
 use pm_values::{ColumnDecl, Row, Rows, TableDecl};
 use std::alloc::Global;
 

@@ -1,4 +1,4 @@
-use Rattle.std.proofs.Common.{◌≡◌, ◌<◌, get_or, [], length, refl, arith}
+use Rattle.std.proofs.Common.{◌≡◌, get_or, [], length, refl, arith}
 use Rattle.pm_tables.specs.Field.{HasNoValue, HasValue}
 use Rattle.pm_tables.proofs.Rows.{lacks_here, writes_all, writes_more}
 use Rattle.pm_tables.proofs.typing.type_row.Goals as goal

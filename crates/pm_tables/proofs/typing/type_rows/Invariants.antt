@@ -1,4 +1,4 @@
-use Rattle.std.proofs.Common.{◌≤◌, slice_range}
+use Rattle.std.proofs.Common.{slice_range}
 use Rattle.pm_tables.specs.Typing.{WritesRows}
 use Rattle.pm_tables.proofs.typing.type_rows.Given as goal
 

@@ -2,7 +2,7 @@ use Rattle.std.proofs.Common.{◌≡◌, ◌∙◌, length, sym}
 use Rattle.std.specs.Vec.{vec_len}
 use Rattle.csv.specs.Records.{fields_of}
 use Rattle.pm_tables.proofs.Cuts.{cut-length}
-use Rattle.pm_tables.proofs.records.Records.is_empty.Goals as goal
+use Rattle.pm_tables.proofs.record_list.Records.is_empty.Goals as goal
 
 pub returns : goal.returns
 returns c =

@@ -1,7 +1,7 @@
 use Rattle.std.proofs.Common.{◌∙◌, sym}
 use Rattle.csv.specs.Records.{fields_of}
 use Rattle.pm_tables.proofs.Cuts.{cut-length}
-use Rattle.pm_tables.proofs.records.Records.len.Goals as goal
+use Rattle.pm_tables.proofs.record_list.Records.len.Goals as goal
 
 pub returns : goal.returns
 returns c = rw (← c.self.view_is)

@@ -1,8 +1,8 @@
-use Rattle.std.proofs.Common.{◌≡◌, ◌∙◌, ◌<◌, ◌+◌, ℕ, List, [], get_or, Some, length, sym, ap, arith}
-use Rattle.csv.specs.Records.{fields_of, prev}
+use Rattle.std.proofs.Common.{◌∙◌, ◌+◌, length, sym, arith}
+use Rattle.csv.specs.Records.{fields_of}
 use Rattle.csv.proofs.RecordFacts.{field-bounds, field-get}
 use Rattle.pm_tables.proofs.Cuts.{cut-length, field-at, field_there, in_field}
-use Rattle.pm_tables.proofs.records.Records.field.Goals as goal
+use Rattle.pm_tables.proofs.record_list.Records.field.Goals as goal
 
 pub bounds-start-requires : goal.bounds-start-requires
 bounds-start-requires c = rw (c.as_slice.ensures.value) (rw (← c.self.view_is, cut-length 0 c.self.inside.ends.items (fields_of c.self.inside.fields)) at c.requires.record)

@@ -1,7 +1,7 @@
 use Rattle.std.proofs.Common.{◌≡◌, ◌<◌, ◌+◌, ◌-◌, ◌∙◌, sym, rules, length}
 use Rattle.csv.proofs.RecordFacts.{prev-first, prev-next}
-use Rattle.pm_tables.proofs.records.bounds.Goals as goal
-use Rattle.pm_tables.proofs.records.bounds.Goals.{then-at-eq0, else-at-eq0}
+use Rattle.pm_tables.proofs.record_list.bounds.Goals as goal
+use Rattle.pm_tables.proofs.record_list.bounds.Goals.{then-at-eq0, else-at-eq0}
 
 pub returns-clause-start : goal.returns-clause-start
 returns-clause-start c = elim c.if-at-eq0.branch [

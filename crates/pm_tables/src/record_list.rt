@@ -1,5 +1,6 @@
-ghost use Rattle.std.specs.Prelude.{◌≡◌, ◌==◌, ◌<◌, ℕ, List, [], get_or, length};
-ghost use Rattle.csv.specs.Records.{prev};
+ghost use Rattle.std.specs.Prelude.{◌≡◌, ◌==◌, ◌<◌, ◌^◌, ℕ, List, [], get_or, length};
+ghost use Rattle.csv.specs.Records.{Rising, fields_of, prev};
+ghost use Rattle.pm_tables.specs.Records.{cut};
 
 use csv::StringRecord;
 use std::marker::Model;
@@ -26,6 +27,15 @@ impl Model for Records {
 }
 
 impl Records {
+    /// The records that end at these places of the fields.
+    pub(crate) fn new(fields: StringRecord, ends: Vec<usize>) -> Records
+        requires rising { Rising 0 ends.items (length (fields_of fields)) }
+        requires few { length ends.items < 2 ^ 32 }
+        ensures { result ≡ cut 0 ends.items (fields_of fields) }
+    {
+        Records { fields, ends }
+    }
+
     /// How many records there are.
     pub fn len(&self) -> u32
         ensures { result ≡ length self.now }
