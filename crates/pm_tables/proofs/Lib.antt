@@ -7,3 +7,6 @@ pub mod AllRecords
 pub mod HasRead
 pub mod Headers
 pub mod Files
+pub mod Chosen
+pub mod Walks
+pub mod Fits

@@ -3,3 +3,5 @@ pub mod Records
 pub mod Typing
 pub mod Reading
 pub mod HasRead
+pub mod Table
+pub mod Keys

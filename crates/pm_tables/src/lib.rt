@@ -5,11 +5,14 @@
 
 mod fault;
 mod field;
+mod keys;
 mod reading;
 mod record_list;
+mod table;
 mod typing;
 
 pub use fault::DataBad;
 pub use reading::records;
 pub use record_list::Records;
+pub use table::finish;
 pub use typing::type_rows;
