@@ -7,6 +7,7 @@ use Rattle.pm_values.specs.declared.value.Kind.{Kind}
 use Rattle.pm_values.specs.declared.value.Kind.TheVariants as kind
 use Rattle.pm_values.specs.declared.table.ColumnDecl.{ColumnDecl}
 use Rattle.pm_values.specs.declared.table.TableDecl.{TableDecl}
+use Rattle.pm_values.specs.Order.{KeyHolds, NamesColumns, OrderHolds}
 
 -- a table as contracts see it
 pub record Relation : Type 0 where
@@ -48,3 +49,7 @@ pub record IsRelation (table : Relation) : Type 0 where
   pub scales : All HasScale table.decl.columns
   pub few : length table.rows ≤ 2 ^ 24
   pub fit : All (FitsColumns table.decl.columns) table.rows
+  pub key_named : NamesColumns table.decl.key (length table.decl.columns)
+  pub order_named : NamesColumns table.decl.order (length table.decl.columns)
+  pub keyed : KeyHolds table.decl.key table.rows
+  pub ordered : OrderHolds table.decl.order table.rows

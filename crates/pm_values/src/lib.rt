@@ -6,6 +6,7 @@
 
 pub mod gate;
 pub mod items;
+pub mod order;
 pub mod print;
 pub mod table;
 pub mod text;
@@ -13,6 +14,7 @@ pub mod value;
 
 pub use gate::{Gate, OpenGate};
 pub use items::{Bytes, Columns, Items, Names};
+pub use order::compare;
 pub use print::value_text;
 pub use table::{ColumnDecl, ColumnDecls, Db, Table, TableDecl, TableDecls};
 pub use text::Txt;

@@ -34,7 +34,7 @@ pub type TableDecls = Items<TableDecl>;
 /// A declared table with its rows.
 ///
 /// It has at most 2^24 rows, and each has one value per column, of the column's kind, and NULL only where the column
-/// is nullable.
+/// is nullable. No two rows agree in all KEY columns, and the rows ascend by the ORDER columns.
 #[derive(Debug, Drop)]
 pub struct Table {
     decl: TableDecl,

@@ -1,0 +1,12 @@
+pub mod Digits
+pub mod Decimals
+pub mod Values
+pub mod Cuts
+pub mod Rows
+pub mod AllRecords
+pub mod HasRead
+pub mod Headers
+pub mod Files
+pub mod Chosen
+pub mod Walks
+pub mod Fits

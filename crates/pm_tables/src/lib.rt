@@ -1,0 +1,18 @@
+//! The bytes of a CSV file to a typed table: records, the values of their fields, KEY and ORDER.
+//!
+//! A table comes exactly where the bytes and the declaration have one, and else the first fault of the file.
+#![tactic(auto)]
+
+mod fault;
+mod field;
+mod keys;
+mod reading;
+mod record_list;
+mod table;
+mod typing;
+
+pub use fault::DataBad;
+pub use reading::records;
+pub use record_list::Records;
+pub use table::finish;
+pub use typing::type_rows;

@@ -1,0 +1,119 @@
+ghost use Rattle.std.specs.Prelude.{◌≡◌, ◌≤◌, ◌++◌, ◌∷◌, ℕ, List, [], IfErr, IfOk, IsTrue, Some, ◌↔◌, slice_get, MatchOption, OnOk, length};
+ghost use Rattle.csv.specs.Reading.{default_config, records, strip_bom};
+ghost use Rattle.csv.specs.Records.{fields_of};
+ghost use Rattle.pm_tables.specs.HasRead.{Continues, EndsTooLate, HasRead};
+ghost use Rattle.pm_tables.specs.Reading.{DiffersAt, FaultsFile, IsList, names_of};
+ghost use Rattle.pm_tables.specs.declared.fault.DataBad.TheVariants.{Memory};
+
+use crate::fault::DataBad;
+use crate::record_list::Records;
+use csv::{Reader, ReaderBuilder, StringRecord};
+use pm_values::{ColumnDecl, TableDecl};
+use std::alloc::{AllocError, Global};
+
+/// The records of a CSV file after its header, which is the list of the column names.
+///
+/// The bytes are read as the `csv` crate reads them with its default delimiter and quoting, and with records of any
+/// lengths; one UTF-8 byte order mark at their front is no part of them. Refused are, in this order, bytes that are
+/// not UTF-8 ([`DataBad::NotText`]), no record at all ([`DataBad::NoHeader`]), a first record that is not the list of
+/// the column names ([`DataBad::Header`]), and more than `most` records behind it ([`DataBad::TooManyRows`]).
+pub fn records(alloc: Global, decl: &TableDecl, bytes: &[u8], most: u32) -> Result<Records, DataBad>
+    requires narrow { length decl.now.columns ≤ 64 }
+    ensures listed { IfOk result (IsList decl.now.columns bytes.now most) }
+    ensures refused { IfErr result (FaultsFile decl.now.columns bytes.now most) }
+{
+    if let Err(error) = str::from_utf8(bytes) {
+        return Err(DataBad::NotText(error.valid_up_to() as u64));
+    }
+    let mut reader = open(alloc, bytes);
+    let mut record = StringRecord::new(alloc);
+    if !next(&mut reader, &mut record)? {
+        return Err(DataBad::NoHeader);
+    }
+    if let Some(place) = first_difference(&record, decl.columns.as_slice()) {
+        return Err(DataBad::Header(place + 1));
+    }
+    gather(alloc, &mut reader, &mut record, most)
+}
+
+/// The place, from 0, of the first column whose name is not the field there, or at which only one of both has ended.
+fn first_difference(header: &StringRecord, columns: &[ColumnDecl]) -> Option<u32>
+    requires { length columns.now ≤ 64 }
+    ensures { MatchOption result (fields_of header.now ≡ names_of columns.now)
+        (λ place. (place ≤ 64) × DiffersAt (fields_of header.now) (names_of columns.now) place) }
+{
+    for (place, column) in columns.iter().enumerate() {
+        if !has_field(header, place, column.name.as_str()) {
+            return Some(place as u32);
+        }
+    }
+    if header.len() == columns.len() {
+        None
+    } else {
+        Some(columns.len() as u32)
+    }
+}
+
+fn has_field(record: &StringRecord, place: usize, text: &str) -> bool
+    ensures { IsTrue result ↔ (slice_get (fields_of record.now) place ≡ Some text.now) }
+{
+    match record.get(place) {
+        Some(field) => field == text,
+        None => false,
+    }
+}
+
+/// All further records, which are put into `record` one by one, or the refusal where these are more than `most`.
+fn gather(
+    alloc: Global,
+    reader: &mut Reader<&[u8]>,
+    record: &mut StringRecord,
+    most: u32,
+) -> Result<Records, DataBad>
+    ensures listed { (text : List ℕ) (header : List (List ℕ)) → HasRead text (header ∷ []) reader.old
+        → IfOk result (λ list. (records default_config text ≡ header ∷ list) × (length list ≤ most)) }
+    ensures refused { (text : List ℕ) (header : List (List ℕ)) → HasRead text (header ∷ []) reader.old → IfErr result (EndsTooLate text header most) }
+{
+    let mut fields = StringRecord::new(alloc);
+    let mut ends = Vec::new(alloc);
+    for _ in 0..most {
+        if !next(reader, record)? {
+            return Ok(Records::new(fields, ends));
+        }
+        push_fields(&mut fields, record)?;
+        ends.push(fields.len())?;
+    }
+    if next(reader, record)? {
+        return Err(DataBad::TooManyRows);
+    }
+    Ok(Records::new(fields, ends))
+}
+
+fn push_fields(fields: &mut StringRecord, record: &StringRecord) -> Result<(), AllocError>
+    ensures { OnOk result (fields_of fields.new ≡ fields_of fields.old ++ fields_of record.now) }
+{
+    for place in 0..record.len() {
+        if let Some(field) = record.get(place) {
+            fields.push_field(field)?;
+        }
+    }
+    Ok(())
+}
+
+/// A reader of all records of these bytes, without one byte order mark at their front.
+fn open(alloc: Global, bytes: &[u8]) -> Reader<&[u8]>
+    ensures { HasRead (strip_bom bytes.now) [] result }
+{
+    ReaderBuilder::new()
+        .has_headers(false)
+        .flexible(true)
+        .from_reader(alloc, bytes)
+}
+
+/// Whether there is a next record, which is put into `record`.
+fn next(reader: &mut Reader<&[u8]>, record: &mut StringRecord) -> Result<bool, DataBad>
+    ensures found { (text : List ℕ) (rows : List (List (List ℕ))) → HasRead text rows reader.old → IfOk result (λ found. Continues text rows reader.new found (fields_of record.new)) }
+    ensures refused { IfErr result (λ e. e ≡ Memory) }
+{
+    reader.read_record(record).map_err(|_| DataBad::Memory)
+}

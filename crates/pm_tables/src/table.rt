@@ -1,0 +1,102 @@
+ghost use Rattle.std.specs.Prelude.{◌≡◌, ◌≢◌, ◌<◌, ◌≤◌, ◌+◌, ◌^◌, ℕ, All, IfErr, IfOk, MatchOption, get_or, length};
+ghost use Rattle.pm_values.specs.Order.{Ascends, IsKey, NamesColumns, chosen_at};
+ghost use Rattle.pm_values.specs.Table.{FitsColumns, HasScale};
+ghost use Rattle.pm_tables.specs.Keys.{AreChained, IsLatest, hash_at};
+ghost use Rattle.pm_tables.specs.Table.{FallsFirst, FaultsTable, HaveColumns, RepeatsFirst};
+
+use crate::fault::DataBad;
+use crate::keys::{agree, compare_chosen, key_hash};
+use pm_values::{Row, Rows, Table, TableDecl};
+use std::alloc::Global;
+use std::cmp::Ordering;
+use std::collections::HashMap;
+
+/// The table of these rows, whose KEY and ORDER hold.
+///
+/// Refused are a KEY that repeats ([`DataBad::DoubleKey`]), and else a row below the one before it by the ORDER
+/// columns ([`DataBad::OutOfOrder`]). The rows are dropped then.
+pub fn finish(alloc: Global, decl: TableDecl, rows: Rows) -> Result<Table, DataBad>
+    requires narrow { length decl.columns ≤ 64 }
+    requires scales { All HasScale decl.columns }
+    requires key { NamesColumns decl.key (length decl.columns) }
+    requires order { NamesColumns decl.order (length decl.columns) }
+    requires few { length rows ≤ 2 ^ 24 }
+    requires fit { All (FitsColumns decl.columns) rows }
+    ensures table { IfOk result (λ table. table ≡ record { decl = decl; rows = rows }) }
+    ensures refused { IfErr result (FaultsTable decl rows) }
+{
+    if let Some(columns) = &decl.key {
+        if let Some((first, second)) = first_repeat(alloc, rows.as_slice(), columns.as_slice())? {
+            return Err(DataBad::DoubleKey(first + 1, second + 1));
+        }
+    }
+    if let Some(columns) = &decl.order {
+        if let Some(above) = first_fall(rows.as_slice(), columns.as_slice()) {
+            return Err(DataBad::OutOfOrder(above + 2));
+        }
+    }
+    Ok(Table::new(decl, rows))
+}
+
+/// The place, from 0, of the first row that is above the next one by these columns.
+fn first_fall(rows: &[Row], columns: &[u32]) -> Option<u32>
+    requires few { length rows.now ≤ 2 ^ 24 }
+    requires columns { HaveColumns columns.now rows.now }
+    ensures { MatchOption result (Ascends columns.now rows.now) (λ above. (above < 2 ^ 24) × FallsFirst columns.now rows.now above) }
+{
+    for next in 1..rows.len() {
+        if compare_chosen(&rows[next - 1], &rows[next], columns) == Ordering::Greater {
+            return Some(next as u32 - 1);
+        }
+    }
+    None
+}
+
+/// The places, from 0, of the first row that agrees with an earlier one in these columns: the earlier one's, and its own.
+fn first_repeat(alloc: Global, rows: &[Row], columns: &[u32]) -> Result<Option<(u32, u32)>, DataBad>
+    requires few { length rows.now ≤ 2 ^ 24 }
+    requires columns { HaveColumns columns.now rows.now }
+    ensures found { IfOk result (λ found. MatchOption found (IsKey columns.now rows.now)
+        (λ pair. (pair.0 < 2 ^ 24) × (pair.1 < 2 ^ 24) × RepeatsFirst columns.now rows.now pair.0 pair.1)) }
+    ensures refused { IfErr result (λ e. e ≡ DataBad.Memory) }
+{
+    let mut latest: HashMap<u64, u32> = HashMap::new(alloc);
+    let mut earlier: Vec<Option<u32>> = Vec::new(alloc);
+    for at in 0..rows.len() {
+        let start = latest.insert(key_hash(&rows[at], columns), at as u32)?;
+        if let Some(first) = find_same(rows, columns, at as u32, start, earlier.as_slice()) {
+            return Ok(Some((first, at as u32)));
+        }
+        earlier.push(start)?;
+    }
+    Ok(None)
+}
+
+/// An earlier row that agrees with the row at this place in these columns.
+///
+/// The rows with its hash are walked down from the last of them, `start`; `earlier` has for each row the one before it
+/// with the same hash.
+fn find_same(
+    rows: &[Row],
+    columns: &[u32],
+    at: u32,
+    start: Option<u32>,
+    earlier: &[Option<u32>],
+) -> Option<u32>
+    requires within { at < length rows.now }
+    requires columns { HaveColumns columns.now rows.now }
+    requires start { IsLatest (hash_at columns.now rows.now) at (hash_at columns.now rows.now at) start }
+    requires count { length earlier.now ≡ at }
+    requires chained { AreChained (hash_at columns.now rows.now) earlier.now }
+    ensures { MatchOption result ((j : ℕ) → j < at → chosen_at columns.now rows.now j ≢ chosen_at columns.now rows.now at)
+        (λ i. (i < at) × (chosen_at columns.now rows.now i ≡ chosen_at columns.now rows.now at)) }
+{
+    let mut next = start;
+    while let Some(i) = next {
+        if agree(&rows[i as usize], &rows[at as usize], columns) {
+            return Some(i);
+        }
+        next = earlier[i as usize];
+    }
+    None
+}
