@@ -1,5 +1,5 @@
 -- What follows from the forms: one reading, and rows that fit.
-use Rattle.std.proofs.Common.{◌≡◌, ℕ, List, [], ◌∷◌, length, drop, refl, sym, ap, subst, ◌∙◌, arith, lit≤}
+use Rattle.std.proofs.Common.{◌≡◌, ℕ, List, [], ◌∷◌, None, length, drop, refl, sym, ap, subst, ◌∙◌, arith, lit≤}
 use Rattle.std.specs.List.{AllByRecursion}
 use Rattle.std.proofs.lemmas.List.Elements.{All-from_recursion}
 use Rattle.pm_values.specs.declared.value.Value.{Value}
@@ -39,10 +39,17 @@ lines_fit bytes column [] lines = tt
 lines_fit bytes column (row ∷ rows) lines =
     (rw lines.3 (number_fits lines.2.0 lines.0 lines.2.2, tt), lines_fit lines.1 column rows lines.4)
 
-pub table_fits : (bytes column : List ℕ) (decl : TableDecl) (rows : Rows) → decl.columns ≡ int_column column ∷ [] → IsTable bytes column rows → IsRelation (record { decl = decl; rows = rows })
-table_fits bytes column decl rows e t = record {
-  narrow = rw e (lit≤ tt);
-  scales = All-from_recursion HasScale decl.columns (rw e (tt, tt));
-  few = t.few;
-  fit = All-from_recursion (FitsColumns decl.columns) rows (rw e (lines_fit t.body column rows t.lines));
-}
+pub table_fits : (schema bytes column : List ℕ) (decl : TableDecl) (rows : Rows) → IsSchema schema decl → decl.columns ≡ int_column column ∷ [] → IsTable bytes column rows → IsRelation (record { decl = decl; rows = rows })
+table_fits schema bytes column decl rows s e t =
+  let no_key : decl.key ≡ None = ap (λ (d : TableDecl). d.key) s.declared in
+  let no_order : decl.order ≡ None = ap (λ (d : TableDecl). d.order) s.declared in
+  record {
+    narrow = rw e (lit≤ tt);
+    scales = All-from_recursion HasScale decl.columns (rw e (tt, tt));
+    few = t.few;
+    fit = All-from_recursion (FitsColumns decl.columns) rows (rw e (lines_fit t.body column rows t.lines));
+    key_named = rw no_key tt;
+    order_named = rw no_order tt;
+    keyed = rw no_key tt;
+    ordered = rw no_order tt;
+  }

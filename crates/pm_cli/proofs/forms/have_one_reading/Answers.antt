@@ -8,4 +8,4 @@ pub returns-clause-table : goal.returns-clause-table
 returns-clause-table c = table_one
 
 pub returns-clause-relation : goal.returns-clause-relation
-returns-clause-relation c = λ schema bytes column decl rows s e t. table_fits bytes column decl rows e t
+returns-clause-relation c = λ schema bytes column decl rows s e t. table_fits schema bytes column decl rows s e t

@@ -7,7 +7,7 @@ use Rattle.pm_cli.proofs.load.load_rows.Goals as goal
 pub returns-in-Some-clause-relation : goal.returns-in-Some-clause-relation
 returns-in-Some-clause-relation g c =
     let columns = first_column _ _ _ (ap (λ d. d.columns) c.requires.1.declared) c.at-column.ensures in
-    table_fits _ _ _ _ columns (rw c.in-Some.is at c.in_ok-rows.ensures.found)
+    table_fits _ _ _ _ _ c.requires.1 columns (rw c.in-Some.is at c.in_ok-rows.ensures.found)
 
 pub returns-clause-stops : goal.returns-clause-stops
 returns-clause-stops g c =
