@@ -16,3 +16,6 @@ pub mod tree;
 
 pub use fault::SchemaBad;
 pub use schema::{Schema, read_schema};
+
+#[cfg(test)]
+mod tests;
