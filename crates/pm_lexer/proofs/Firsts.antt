@@ -1,13 +1,13 @@
 -- What the first token of a phrase says.
-use Rattle.std.proofs.Common.{◌≡◌, ℕ, Bool, true, false, List, [], ◌∷◌, ◌++◌, Ok, Err, Result, refl, sym, ap, rules}
+use Rattle.std.proofs.Common.{◌≡◌, ℕ, Bool, true, false, List, [], ◌∷◌, Ok, Err, refl, sym, ap, rules}
 use denote.Enum.Bare.{same_true}
 use Rattle.pm_lexer.specs.contracts.symbol.Symbol.{the_type}
 use Rattle.pm_lexer.specs.declared.token.Token.{Token}
 use Rattle.pm_lexer.specs.declared.symbol.Symbol.{Symbol}
 use Rattle.pm_lexer.specs.Symbol.{symbol_of, same_symbol, is}
-use Rattle.pm_lexer.specs.Language.{Lang, Gate, Is}
+use Rattle.pm_lexer.specs.Language.{Gate, Is}
 use Rattle.pm_lexer.specs.Reading.{Read, sees, token_at}
-use Rattle.pm_lexer.proofs.Phrases.{Phrase, Next, Avoids, Heads, Law, Began, Able, Nothing, NotOther, Open, open_behind}
+use Rattle.pm_lexer.proofs.Phrases.{Phrase, Next, Law, Able, Nothing, NotOther, open_behind}
 use Rattle.pm_lexer.proofs.Readers.{Then, then_law, then_began, token_able, not_seen}
 use Rattle.pm_lexer.proofs.Lists.{Peek}
 use Rattle.pm_lexer.proofs.Furthers.{token_peek}

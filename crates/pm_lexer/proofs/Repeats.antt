@@ -1,10 +1,10 @@
 -- The reader of entries with nothing between them.
-use Rattle.std.proofs.Common.{◌≡◌, ◌≤◌, ◌<◌, ◌+◌, ℕ, zero, suc, Bool, true, false, List, [], ◌∷◌, ◌++◌, length, Result, Ok, Err, refl, arith, length-append, nat_le, if◌then◌else◌}
+use Rattle.std.proofs.Common.{◌≡◌, ◌≤◌, ◌<◌, ℕ, zero, suc, Bool, true, false, List, [], ◌∷◌, ◌++◌, length, Ok, refl, arith, length-append, nat_le, if◌then◌else◌}
 use Rattle.pm_lexer.specs.declared.token.Token.{Token}
-use Rattle.pm_lexer.specs.Language.{Lang, Gate, Is, IsFurther}
-use Rattle.pm_lexer.specs.Reading.{Stop, too_many, Read, ◌>>=◌, place_of, sees, token_at, entry_at, more_at}
+use Rattle.pm_lexer.specs.Language.{Gate}
+use Rattle.pm_lexer.specs.Reading.{too_many, Read, ◌>>=◌, place_of, sees, entry_at, more_at}
 use Rattle.pm_lexer.proofs.Phrases.{Phrase, Next, Heads, Taken, Law, Reader, Nothing}
-use Rattle.pm_lexer.proofs.Readers.{Same, same_law, first_law, second_law, pure_reader}
+use Rattle.pm_lexer.proofs.Readers.{same_law, first_law, second_law, pure_reader}
 use Rattle.pm_lexer.proofs.Lists.{Some, ThenSome, some_law, Peek, Further, More, Entry, None, further_same, further_able, entry_same, past_law}
 use Rattle.pm_lexer.proofs.Furthers.{seen_head, none_seen, past, not_past, Refused, refused_bind}
 
@@ -44,15 +44,15 @@ repeat_law {A} T P starts peek limit d p reads looks none inT (suc m) before ts 
     let q : A × List Token → Read (List A) = λ a. more_at starts (λ r. Ok (tt {0}, r)) peek (λ _. p) limit m (before ++ a.0 ∷ []) a.1 in
     elim (sees starts ts) as (λ b. sees starts ts ≡ b → Law T (Further limit Empty (λ _. P) before) d ts (if b then (entry_at (nat_le limit (length before)) peek p ts >>= q) else Ok (before, ts))) [
       | true ↦ λ e.
-        elim (nat_le limit (length before)) as (λ b. nat_le limit (length before) ≡ b → Law T (Further limit Empty (λ _. P) before) d ts (entry_at b peek p ts >>= q)) [
-          | true ↦ λ f. rw (refused_bind {A = A} (peek ts) (too_many (place_of ts)) q) (begins ts (Refused {A = List A} (peek ts) (too_many (place_of ts))) e
-            (past_law T Nothing limit Empty (λ _. P) before tt d peek (λ t s. absurd s) (λ d' g next t us s h. s) looks reads.able (past limit (length before) f) ts (peek ts) refl))
-          | false ↦ λ f. begins ts (p ts >>= q) e
-            (same_law T _ _ d ts (p ts >>= q) (entry_same limit Empty (λ _. P) before tt (not_past limit (length before) f))
-            (some_law T Nothing P (More limit Empty (λ _. P) before) d ts (p ts) q (reads.law ts)
-            (λ a r er. repeat_law T P starts peek limit d p reads looks none inT m (before ++ a ∷ []) r (let less = shorter P d (none [] refl) ts (a, r) (rw er at (reads.law ts)) in omega arith))
-            (λ a. further_able limit Empty (λ _. P) (before ++ a ∷ []) d) (λ a d' g next avoids t us s h. s)))
-        ] refl
+          elim (nat_le limit (length before)) as (λ b. nat_le limit (length before) ≡ b → Law T (Further limit Empty (λ _. P) before) d ts (entry_at b peek p ts >>= q)) [
+            | true ↦ λ f. rw (refused_bind {A = A} (peek ts) (too_many (place_of ts)) q) (begins ts (Refused {A = List A} (peek ts) (too_many (place_of ts))) e
+                (past_law T Nothing limit Empty (λ _. P) before tt d peek (λ t s. absurd s) (λ d' g next t us s h. s) looks reads.able (past limit (length before) f) ts (peek ts) refl))
+            | false ↦ λ f. begins ts (p ts >>= q) e
+                (same_law T _ _ d ts (p ts >>= q) (entry_same limit Empty (λ _. P) before tt (not_past limit (length before) f))
+                (some_law T Nothing P (More limit Empty (λ _. P) before) d ts (p ts) q (reads.law ts)
+                (λ a r er. repeat_law T P starts peek limit d p reads looks none inT m (before ++ a ∷ []) r (let less = shorter P d (none [] refl) ts (a, r) (rw er at (reads.law ts)) in omega arith))
+                (λ a. further_able limit Empty (λ _. P) (before ++ a ∷ []) d) (λ a d' g next avoids t us s h. s)))
+          ] refl
       | false ↦ λ e. stops_law T P limit d before ts (none ts e)
     ] refl
   where

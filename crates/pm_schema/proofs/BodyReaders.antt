@@ -1,13 +1,13 @@
 -- The reader of what stands between the parentheses of a table reads its production.
-use Rattle.std.proofs.Common.{◌≡◌, ◌⊎◌, ◌≤◌, ◌<◌, ◌+◌, ℕ, zero, suc, Bool, true, false, List, [], ◌∷◌, ◌++◌, Option, Some, None, drop, length, Result, Ok, Err, refl, inl, inr, arith, length-append, nat_le, codes, if◌then◌else◌}
+use Rattle.std.proofs.Common.{◌≡◌, ◌⊎◌, ◌≤◌, ◌<◌, ℕ, zero, suc, true, false, List, [], ◌∷◌, ◌++◌, drop, length, Ok, Err, refl, inl, inr, arith, nat_le, codes, if◌then◌else◌}
 use Rattle.pm_lexer.specs.declared.token.Token.{Token}
 use Rattle.pm_lexer.specs.declared.symbol.Symbol.TheVariants as symbol
 use Rattle.pm_lexer.specs.Symbol.{is, same_symbol}
-use Rattle.pm_lexer.specs.Language.{Lang, Gate, Is, Within, IsMore}
+use Rattle.pm_lexer.specs.Language.{Gate, Is, Within, IsMore}
 use Rattle.pm_lexer.specs.Reading.{Stop, too_many, Read, ◌>>=◌, place_of, sees, token_at, entry_at}
-use Rattle.pm_lexer.proofs.Phrases.{Phrase, Next, Avoids, Heads, Taken, Law, Reader, Able, Began, Nothing}
+use Rattle.pm_lexer.proofs.Phrases.{Phrase, Next, Avoids, Law, Reader, Able}
 use Rattle.pm_lexer.proofs.Readers.{Then, Or, Same, same_law, first_law, second_law, first_began, then_law, then_began, pure_reader, not_seen}
-use Rattle.pm_lexer.proofs.Lists.{ThenSome, some_law, Peek, Further, More, Entry, entry_able, past_law}
+use Rattle.pm_lexer.proofs.Lists.{ThenSome, some_law, More, Entry, entry_able, past_law}
 use Rattle.pm_lexer.proofs.Lists.{Some as SomeOf}
 use Rattle.pm_lexer.proofs.Furthers.{seen_head, none_seen, past, not_past, no_longer, Refused}
 use Rattle.pm_lexer.proofs.Firsts.{not_both, seen_law, first_peek, BeginsWith, bars}
@@ -64,19 +64,19 @@ split_to : (before : List ColumnText) (d : ℕ) (g : Gate) (next : Next Body) (t
 unfolding IsMore
 split_to before d g next [] h = elim h [ inl none ↦ (0, inl (inl none)) | inr comma ↦ absurd comma ]
 split_to before d g next (t ∷ ts) h = elim h [
-    | inl none ↦ (0, inl (inl none))
-    | inr comma ↦ elim comma.1 [
-      | inl more ↦ elim more [ inl column ↦ (suc column.0, (comma.0, column.1)) | inr order ↦ (0, inl (inr (comma.0, order))) ]
-      | inr key ↦ (0, inr (comma.0, key))
-    ]
+  | inl none ↦ (0, inl (inl none))
+  | inr comma ↦ elim comma.1 [
+    | inl more ↦ elim more [ inl column ↦ (suc column.0, (comma.0, column.1)) | inr order ↦ (0, inl (inr (comma.0, order))) ]
+    | inr key ↦ (0, inr (comma.0, key))
   ]
+]
 
 ends_from : (before : List ColumnText) (d : ℕ) (g : Gate) (next : Next Body) (ts : List Token) → Clauses before d g next ts → Split before d g next ts
 ends_from before d g next [] h = elim h [ inl order ↦ elim order [ inl none ↦ inl none | inr comma ↦ absurd comma ] | inr comma ↦ absurd comma ]
 ends_from before d g next (t ∷ ts) h = elim h [
-    | inl order ↦ elim order [ inl none ↦ inl none | inr comma ↦ inr (comma.0, inl (inr comma.1)) ]
-    | inr comma ↦ inr (comma.0, inr comma.1)
-  ]
+  | inl order ↦ elim order [ inl none ↦ inl none | inr comma ↦ inr (comma.0, inl (inr comma.1)) ]
+  | inr comma ↦ inr (comma.0, inr comma.1)
+]
 
 split_from : (before : List ColumnText) (d : ℕ) (g : Gate) (next : Next Body) (ts : List Token) (n : ℕ) → IsMore g 64 (Is (is symbol.Comma)) (λ _. IsColumn (is symbol.Name)) n before (λ columns. Clauses columns d g next) ts → Split before d g next ts
 unfolding IsMore
@@ -117,9 +117,9 @@ either_begins before d g next (t ∷ ts) h = elim h [ inl column ↦ inl column.
 clauses_clear : (columns : List ColumnText) (d : ℕ) (g : Gate) (next : Next Body) (t : Token) (ts : List Token) → Avoids BodyNext next → NotNext t → Clauses columns d g next (t ∷ ts) → ⊥
 unfolding same_symbol
 clauses_clear columns d g next t ts avoids s h = elim h [
-    | inl order ↦ elim order [ inl none ↦ avoids _ t ts (inr s) none | inr comma ↦ not_both symbol.Not symbol.Comma t refl s comma.0 ]
-    | inr comma ↦ not_both symbol.Not symbol.Comma t refl s comma.0
-  ]
+  | inl order ↦ elim order [ inl none ↦ avoids _ t ts (inr s) none | inr comma ↦ not_both symbol.Not symbol.Comma t refl s comma.0 ]
+  | inr comma ↦ not_both symbol.Not symbol.Comma t refl s comma.0
+]
 
 more_clear : (before : List ColumnText) (n d : ℕ) (g : Gate) (next : Next Body) (t : Token) (ts : List Token) → Avoids BodyNext next → NotNext t
     → IsMore g 64 (Is (is symbol.Comma)) (λ _. IsColumn (is symbol.Name)) n before (λ columns. Clauses columns d g next) (t ∷ ts) → ⊥
@@ -179,7 +179,7 @@ unfolding same_symbol
 column_or_order before s d us q law =
     elim (sees (is symbol.Order) us) as (λ b. sees (is symbol.Order) us ≡ b → Law BodyNext (Or (Columned before) (Ordered before)) d us (if b then orders_at before (drop 1 us) else (next_column_at before us >>= q))) [
       | true ↦ λ e. second_law BodyNext (Columned before) (Ordered before) d us _
-        (bars BodyNext (Columned before) (λ t. is symbol.Name t ≡ true) (is symbol.Order) (columned_begins before) (λ t o n. not_both symbol.Order symbol.Name t refl o n) us e) (seen us e)
+          (bars BodyNext (Columned before) (λ t. is symbol.Name t ≡ true) (is symbol.Order) (columned_begins before) (λ t o n. not_both symbol.Order symbol.Name t refl o n) us e) (seen us e)
       | false ↦ λ e. first_law BodyNext (Columned before) (Ordered before) d us _ (λ d' g next w avoids heads h. not_seen (is symbol.Order) us w _ e heads h) law
     ] refl
   where
@@ -194,8 +194,8 @@ behind_law before s d us q law =
     let others : Read Body = if sees (is symbol.Order) us then orders_at before (drop 1 us) else (next_column_at before us >>= q) in
     elim (sees (stands terminal.Key) us) as (λ b. sees (stands terminal.Key) us ≡ b → Law BodyNext (Behind before) d us (if b then keys_at before (drop 1 us) else others)) [
       | true ↦ λ e. second_law BodyNext (Or (Columned before) (Ordered before)) (Keyed before) d us _
-        (bars BodyNext (Or (Columned before) (Ordered before)) _ (stands terminal.Key) (either_begins before)
-        (λ t k f. elim f [ inl n ↦ not_both symbol.Other symbol.Name t refl (key_is_other t k) n | inr o ↦ not_both symbol.Other symbol.Order t refl (key_is_other t k) o ]) us e) (seen us e)
+          (bars BodyNext (Or (Columned before) (Ordered before)) _ (stands terminal.Key) (either_begins before)
+          (λ t k f. elim f [ inl n ↦ not_both symbol.Other symbol.Name t refl (key_is_other t k) n | inr o ↦ not_both symbol.Other symbol.Order t refl (key_is_other t k) o ]) us e) (seen us e)
       | false ↦ λ e. first_law BodyNext (Or (Columned before) (Ordered before)) (Keyed before) d us others (λ d' g next w avoids heads h. not_seen (stands terminal.Key) us w _ e heads h) (column_or_order before s d us q law)
     ] refl
   where
@@ -218,9 +218,9 @@ further_law d (suc m) before (t ∷ us) le =
     let r : Read Body = if sees (stands terminal.Key) us then keys_at before (drop 1 us) else (if sees (is symbol.Order) us then orders_at before (drop 1 us) else (next_column_at before us >>= q)) in
     elim (is symbol.Comma t) as (λ b. is symbol.Comma t ≡ b → Law BodyNext (FurtherBody before) d (t ∷ us) (if b then r else Ok (plain_body before, t ∷ us))) [
       | true ↦ λ e. same_law BodyNext _ _ d (t ∷ us) r (split_same before)
-        (second_law BodyNext (Ends before) (Then Comma (λ _. Behind before)) d (t ∷ us) r (λ d' g next w avoids heads h. seen_head BodyNext (is symbol.Comma) (t ∷ us) w next (plain_body before) e (λ u c. inl c) avoids heads h)
-        (seen_law BodyNext (is symbol.Comma) t us e (Behind before) d r (behind_able before t d)
-        (behind_law before t d us q (next_law before t d us q (λ a rest shorter. further_law d m (before ++ a ∷ []) rest (omega arith))))))
+          (second_law BodyNext (Ends before) (Then Comma (λ _. Behind before)) d (t ∷ us) r (λ d' g next w avoids heads h. seen_head BodyNext (is symbol.Comma) (t ∷ us) w next (plain_body before) e (λ u c. inl c) avoids heads h)
+          (seen_law BodyNext (is symbol.Comma) t us e (Behind before) d r (behind_able before t d)
+          (behind_law before t d us q (next_law before t d us q (λ a rest shorter. further_law d m (before ++ a ∷ []) rest (omega arith))))))
       | false ↦ λ e. stops_law before d (t ∷ us) e
     ] refl
 
@@ -231,7 +231,7 @@ body_reader d =
     let first = column_reader (stands terminal.Name) (plain (codes "a")) any_name_stands d in
     record {
       law = λ ts. then_law BodyNext NotNext (λ _ _. IsColumn (stands terminal.Name)) (λ a. FurtherBody (a ∷ [])) d ts _ (λ a. further_at (length a.1) (a.0 ∷ []) a.1) (first.law ts)
-        (λ a r e. further_law d (length r) (a ∷ []) r (omega arith)) (λ a. further_able (a ∷ []) d)
-        (λ a d' g next avoids t us n h. more_clear (a ∷ []) h.0 d' g next t us avoids n h.1);
+          (λ a r e. further_law d (length r) (a ∷ []) r (omega arith)) (λ a. further_able (a ∷ []) d)
+          (λ a d' g next avoids t us n h. more_clear (a ∷ []) h.0 d' g next t us avoids n h.1);
       able = then_began {Q = λ a. FurtherBody (a ∷ [])} (λ a. further_able (a ∷ []) d) first.able;
     }

@@ -1,11 +1,11 @@
 -- The readers of names, kinds and columns read their productions.
-use Rattle.std.proofs.Common.{◌≡◌, ◌⊎◌, ℕ, Bool, true, false, List, [], ◌∷◌, ◌++◌, drop, Result, Ok, Err, refl, inl, inr, codes, if◌then◌else◌}
+use Rattle.std.proofs.Common.{◌≡◌, ◌⊎◌, ℕ, Bool, true, false, [], ◌∷◌, Ok, refl, inl, inr, codes}
 use Rattle.pm_lexer.specs.declared.token.Token.{Token}
 use Rattle.pm_lexer.specs.declared.symbol.Symbol.TheVariants as symbol
 use Rattle.pm_lexer.specs.Symbol.{is}
-use Rattle.pm_lexer.specs.Language.{Lang, Gate, Is}
-use Rattle.pm_lexer.specs.Reading.{Read, ◌>>=◌, sees, token_at}
-use Rattle.pm_lexer.proofs.Phrases.{Phrase, Next, Reader, Nothing}
+use Rattle.pm_lexer.specs.Language.{Is}
+use Rattle.pm_lexer.specs.Reading.{◌>>=◌}
+use Rattle.pm_lexer.proofs.Phrases.{Phrase, Reader, Nothing}
 use Rattle.pm_lexer.proofs.Readers.{Then, Or, Same, pure_reader, then_reader, token_reader, same_reader, map_reader}
 use Rattle.pm_lexer.proofs.Furthers.{behind_reader, optional_reader}
 use Rattle.pm_lexer.proofs.Firsts.{BeginsWith, bars}
@@ -27,9 +27,9 @@ num_reader : (S : Token → Type 0) (d : ℕ) → Reader S (λ _ _. IsNum) d num
 unfolding num_at
 num_reader S d =
     token_reader S (stands (terminal.Word word.Num)) (plain (codes "NUM")) num_word_stands _ d _ (λ _.
-      token_reader S (is symbol.Open) (sign symbol.Open) open_stands _ d _ (λ _.
-        token_reader S (stands terminal.Scale) scale_sample scale_stands _ d _ (λ scale.
-          token_reader S (is symbol.Close) (sign symbol.Close) close_stands _ d _ (λ _. pure_reader S d (kind.Num (scale_of scale))))))
+    token_reader S (is symbol.Open) (sign symbol.Open) open_stands _ d _ (λ _.
+    token_reader S (stands terminal.Scale) scale_sample scale_stands _ d _ (λ scale.
+    token_reader S (is symbol.Close) (sign symbol.Close) close_stands _ d _ (λ _. pure_reader S d (kind.Num (scale_of scale))))))
 
 -- INT or TEXT, and nothing else
 abbrev Only : Kind → Phrase Kind
@@ -59,7 +59,7 @@ pub kind_reader : (S : Token → Type 0) (d : ℕ) → Reader S (λ _ _. IsKind)
 unfolding kind_at
 kind_reader S d =
     let text_or = behind_reader S (stands (terminal.Word word.Text)) (plain (codes "TEXT")) text_word_stands (Only kind.Text) (λ _ _. IsNum) d (λ r. Ok (kind.Text, r)) num_at (pure_reader S d kind.Text) (num_reader S d)
-      (bars S (λ _ _. IsNum) (λ t. stands (terminal.Word word.Num) t ≡ true) (stands (terminal.Word word.Text)) num_begins (λ t e f. two_words word.Text word.Num t refl e f)) in
+    (bars S (λ _ _. IsNum) (λ t. stands (terminal.Word word.Num) t ≡ true) (stands (terminal.Word word.Text)) num_begins (λ t e f. two_words word.Text word.Num t refl e f)) in
     same_reader S IntOr (λ _ _. IsKind) d _ kind_same
     (behind_reader S (stands (terminal.Word word.Int)) (plain (codes "INT")) int_word_stands (Only kind.Int) TextOr d (λ r. Ok (kind.Int, r)) _ (pure_reader S d kind.Int) text_or
     (bars S TextOr _ (stands (terminal.Word word.Int)) text_or_begins (λ t e f. elim f [ inl num ↦ two_words word.Int word.Num t refl e num | inr text ↦ two_words word.Int word.Text t refl e text ])))
@@ -77,7 +77,7 @@ nullable_reader d =
 -- behind a column's name
 pub column_behind_reader : (name : Token) (d : ℕ)
     → Reader {A = ColumnText} NotNext (λ _ _ next. IsKind (λ kind. IsNullable (λ nullable. next (record { name = named name; kind = kind; nullable = nullable })))) d
-      (λ ts. kind_at ts >>= λ kind. nullable_at kind.1 >>= λ nullable. Ok (record { name = named name; kind = kind.0; nullable = nullable.0 }, nullable.1))
+    (λ ts. kind_at ts >>= λ kind. nullable_at kind.1 >>= λ nullable. Ok (record { name = named name; kind = kind.0; nullable = nullable.0 }, nullable.1))
 column_behind_reader name d =
     then_reader NotNext Nothing (λ _ _. IsKind) (λ kind _ _ next. IsNullable (λ nullable. next (record { name = named name; kind = kind; nullable = nullable }))) d kind_at _ (kind_reader Nothing d)
     (λ kind. map_reader NotNext (λ _ _. IsNullable) (λ nullable. record { name = named name; kind = kind; nullable = nullable }) d nullable_at (nullable_reader d))

@@ -1,5 +1,5 @@
 -- What is answered of tables that were read.
-use Rattle.std.proofs.Common.{◌≡◌, ◌⊎◌, ℕ, List, [], ◌∷◌, Option, Some, None, Result, Ok, Err, MatchResult, IfOk, IsErrOf, refl, sym, ◌∙◌, ap, inl, inr}
+use Rattle.std.proofs.Common.{◌≡◌, ◌⊎◌, ℕ, List, Option, Some, None, Result, Ok, Err, MatchResult, IfOk, IsErrOf, refl, sym, ◌∙◌, ap, inl}
 use Rattle.pm_lexer.specs.declared.token.Token.{Token}
 use Rattle.pm_values.specs.declared.table.TableDecl.{TableDecl}
 use Rattle.pm_schema.specs.declared.tree.TableText.{TableText}

@@ -1,16 +1,15 @@
 -- The readers of the lists of KEY and ORDER read their productions.
-use Rattle.std.proofs.Common.{◌≡◌, ◌⊎◌, ℕ, Bool, true, false, List, [], ◌∷◌, Option, Some, None, drop, Result, Ok, Err, refl, inl, inr, codes, if◌then◌else◌}
+use Rattle.std.proofs.Common.{◌≡◌, ℕ, true, List, Some, None, refl, codes}
 use Rattle.pm_lexer.specs.declared.token.Token.{Token}
 use Rattle.pm_lexer.specs.declared.symbol.Symbol.TheVariants as symbol
 use Rattle.pm_lexer.specs.Symbol.{is, same_symbol}
-use Rattle.pm_lexer.specs.Language.{Lang, Gate, Is, IsList}
-use Rattle.pm_lexer.specs.Reading.{Read, ◌>>=◌, sees, token_at, list_at}
-use Rattle.pm_lexer.proofs.Phrases.{Phrase, Next, Reader, Nothing}
-use Rattle.pm_lexer.proofs.Readers.{Then, pure_reader, then_reader, token_reader, map_reader}
+use Rattle.pm_lexer.specs.Language.{Is, IsList}
+use Rattle.pm_lexer.specs.Reading.{token_at, list_at}
+use Rattle.pm_lexer.proofs.Phrases.{Phrase, Reader, Nothing}
+use Rattle.pm_lexer.proofs.Readers.{pure_reader, then_reader, token_reader, map_reader}
 use Rattle.pm_lexer.proofs.Furthers.{list_reader, optional_reader}
 use Rattle.pm_lexer.proofs.Firsts.{not_both, first_peek}
 use Rattle.pm_schema.specs.declared.tree.Terminal.TheVariants as terminal
-use Rattle.pm_schema.specs.declared.tree.PlacedName.{PlacedName}
 use Rattle.pm_schema.specs.declared.tree.ColumnText.{ColumnText}
 use Rattle.pm_schema.specs.declared.tree.Body.{Body}
 use Rattle.pm_schema.specs.Terminals.{named, stands}
@@ -32,9 +31,9 @@ pub names_reader : (S : Token → Type 0) (d : ℕ) → Reader S (λ _ g. IsName
 unfolding names_at same_symbol
 names_reader S d =
     token_reader S (is symbol.Open) (sign symbol.Open) open_stands _ d _ (λ _.
-      then_reader S CommaNext (λ _ g. IsList g 8 IsName (is symbol.Comma)) (λ names _ _ next. Is (is symbol.Close) (λ _. next names)) d _ _ (name_list_reader d)
-      (λ names. token_reader S (is symbol.Close) (sign symbol.Close) close_stands _ d _ (λ _. pure_reader S d names))
-      (λ a d' g next avoids t ts s h. not_both symbol.Comma symbol.Close t refl s h.0))
+    then_reader S CommaNext (λ _ g. IsList g 8 IsName (is symbol.Comma)) (λ names _ _ next. Is (is symbol.Close) (λ _. next names)) d _ _ (name_list_reader d)
+    (λ names. token_reader S (is symbol.Close) (sign symbol.Close) close_stands _ d _ (λ _. pure_reader S d names))
+    (λ a d' g next avoids t ts s h. not_both symbol.Comma symbol.Close t refl s h.0))
 
 some_names_reader : (S : Token → Type 0) (d : ℕ) → Reader S (λ _ g next. IsNames g (λ names. next (Some names))) d some_names_at
 unfolding some_names_at

@@ -1,17 +1,15 @@
 -- Samples of the terminals, and which tokens are not two of them.
-use Rattle.std.proofs.Common.{◌≡◌, ◌⊎◌, ℕ, Bool, true, false, List, [], ◌∷◌, Option, Some, None, refl, sym, ◌∙◌, ap, inl, inr, ◌&&◌, ◌||◌, codes}
+use Rattle.std.proofs.Common.{◌≡◌, ℕ, Bool, true, false, List, [], Option, Some, None, refl, ap, ◌&&◌, codes}
 use Rattle.pm_lexer.specs.declared.token.Token.{Token}
 use Rattle.pm_lexer.specs.declared.token.TokenKind.{TokenKind}
 use Rattle.pm_lexer.specs.declared.token.TokenKind.TheVariants as kind
 use Rattle.pm_lexer.specs.declared.symbol.Symbol.{Symbol}
 use Rattle.pm_lexer.specs.declared.symbol.Symbol.TheVariants as symbol
 use Rattle.pm_lexer.specs.Symbol.{symbol_of, symbol_at, same_symbol, is, spelling, reserved_word, canonical_sign}
-use Rattle.pm_lexer.proofs.Firsts.{not_both}
 use Rattle.pm_schema.specs.declared.tree.Word.{Word}
 use Rattle.pm_schema.specs.declared.tree.Word.TheVariants as word
-use Rattle.pm_schema.specs.declared.tree.Terminal.{Terminal}
 use Rattle.pm_schema.specs.declared.tree.Terminal.TheVariants as terminal
-use Rattle.pm_schema.specs.Terminals.{stands, word_of, word_of_kind, word_named, same_word, is_found, is_key, spells_key}
+use Rattle.pm_schema.specs.Terminals.{stands, word_of, word_of_kind, word_named, same_word, is_found, spells_key}
 
 -- a token of each terminal that the grammar has
 abbrev pub sign : Symbol → Token

@@ -1,14 +1,13 @@
 -- One turn of the reading of a body, and what fails with what.
-use Rattle.std.proofs.Common.{◌≡◌, ◌<◌, ◌+◌, ◌-◌, ℕ, zero, suc, Bool, true, false, List, [], ◌∷◌, ◌++◌, drop, length, Ok, Err, Result, refl, sym, ◌∙◌, ap, arith, append_assoc, append-nil, if◌then◌else◌}
+use Rattle.std.proofs.Common.{◌≡◌, ◌+◌, ℕ, zero, suc, true, false, List, [], ◌∷◌, ◌++◌, drop, Ok, Err, Result, refl, arith, append_assoc, append-nil}
 use Rattle.pm_lexer.specs.declared.token.Token.{Token}
 use Rattle.pm_lexer.specs.declared.symbol.Symbol.TheVariants as symbol
 use Rattle.pm_lexer.specs.Symbol.{is}
-use Rattle.pm_lexer.specs.Reading.{Stop, expected, too_many, Read, ◌>>=◌, sees}
+use Rattle.pm_lexer.specs.Reading.{Stop, expected, too_many, ◌>>=◌, sees}
 use Rattle.pm_schema.specs.declared.fault.ReadBad.{ReadBad}
 use Rattle.pm_schema.specs.declared.fault.ReadBad.TheVariants as bad
 use Rattle.pm_schema.specs.declared.tree.Terminal.TheVariants as terminal
 use Rattle.pm_schema.specs.declared.tree.ColumnText.{ColumnText}
-use Rattle.pm_schema.specs.declared.tree.Body.{Body}
 use Rattle.pm_schema.specs.Terminals.{stands, keyed, keyed_before}
 use Rattle.pm_schema.specs.Reading.{Fails, keys_at, orders_at, next_column_at, plain_body, further_at}
 

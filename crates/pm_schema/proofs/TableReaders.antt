@@ -1,12 +1,12 @@
 -- The readers of a table and of a schema read their productions.
-use Rattle.std.proofs.Common.{◌≡◌, ◌⊎◌, ◌≤◌, ℕ, Bool, true, false, List, [], ◌∷◌, drop, length, Result, Ok, Err, refl, inl, inr, arith, codes}
+use Rattle.std.proofs.Common.{◌≡◌, ℕ, true, List, [], ◌∷◌, length, Ok, refl, inl, inr, arith, codes}
 use Rattle.pm_lexer.specs.declared.token.Token.{Token}
 use Rattle.pm_lexer.specs.declared.symbol.Symbol.TheVariants as symbol
 use Rattle.pm_lexer.specs.Symbol.{is, same_symbol}
 use Rattle.pm_lexer.specs.Pieces.{content_of}
-use Rattle.pm_lexer.specs.Language.{Lang, Gate, Is}
-use Rattle.pm_lexer.specs.Reading.{Read, ◌>>=◌, sees, token_at}
-use Rattle.pm_lexer.proofs.Phrases.{Phrase, Next, Law, Reader, Able, Nothing}
+use Rattle.pm_lexer.specs.Language.{Is}
+use Rattle.pm_lexer.specs.Reading.{◌>>=◌, token_at}
+use Rattle.pm_lexer.proofs.Phrases.{Phrase, Law, Reader, Able, Nothing}
 use Rattle.pm_lexer.proofs.Readers.{Then, pure_reader, then_reader, then_law, then_began, token_reader, not_seen}
 use Rattle.pm_lexer.proofs.Lists.{Further, further_able}
 use Rattle.pm_lexer.proofs.Firsts.{not_both, first_peek}
@@ -25,19 +25,19 @@ use Rattle.pm_schema.proofs.BodyReaders.{BodyNext, body_reader}
 -- behind a table's name
 named_reader : (name : PlacedName) (d : ℕ)
     → Reader {A = TableText} Nothing
-      (λ _ g next. Is (is symbol.From) (λ _. Is (is symbol.Text) (λ file. Is (is symbol.Open) (λ _. IsBody g (λ body. Is (is symbol.Close) (λ _. Is (is symbol.Semicolon) (λ _.
-      next (record { name = name; file = content_of file; body = body })))))))) d
-      (λ ts. token_at (is symbol.From) ts >>= λ from. token_at (is symbol.Text) from.1 >>= λ file. token_at (is symbol.Open) file.1 >>= λ paren. body_at paren.1 >>= λ body.
-      token_at (is symbol.Close) body.1 >>= λ close. token_at (is symbol.Semicolon) close.1 >>= λ semicolon. Ok (record { name = name; file = content_of file.0; body = body.0 }, semicolon.1))
+    (λ _ g next. Is (is symbol.From) (λ _. Is (is symbol.Text) (λ file. Is (is symbol.Open) (λ _. IsBody g (λ body. Is (is symbol.Close) (λ _. Is (is symbol.Semicolon) (λ _.
+    next (record { name = name; file = content_of file; body = body })))))))) d
+    (λ ts. token_at (is symbol.From) ts >>= λ from. token_at (is symbol.Text) from.1 >>= λ file. token_at (is symbol.Open) file.1 >>= λ paren. body_at paren.1 >>= λ body.
+    token_at (is symbol.Close) body.1 >>= λ close. token_at (is symbol.Semicolon) close.1 >>= λ semicolon. Ok (record { name = name; file = content_of file.0; body = body.0 }, semicolon.1))
 unfolding same_symbol
 named_reader name d =
     token_reader Nothing (is symbol.From) (reserved_sample symbol.From) from_stands _ d _ (λ _.
-      token_reader Nothing (is symbol.Text) text_sample text_stands _ d _ (λ file.
-        token_reader Nothing (is symbol.Open) (sign symbol.Open) open_stands _ d _ (λ _.
-          then_reader Nothing BodyNext (λ _ g. IsBody g) (λ body _ _ next. Is (is symbol.Close) (λ _. Is (is symbol.Semicolon) (λ _. next (record { name = name; file = content_of file; body = body })))) d body_at _ (body_reader d)
-          (λ body. token_reader Nothing (is symbol.Close) (sign symbol.Close) close_stands _ d _ (λ _.
-            token_reader Nothing (is symbol.Semicolon) (sign symbol.Semicolon) semicolon_stands _ d _ (λ _. pure_reader Nothing d (record { name = name; file = content_of file; body = body }))))
-          (λ a d' g next avoids t ts s h. elim s [ inl comma ↦ not_both symbol.Comma symbol.Close t refl comma h.0 | inr negation ↦ not_both symbol.Not symbol.Close t refl negation h.0 ]))))
+    token_reader Nothing (is symbol.Text) text_sample text_stands _ d _ (λ file.
+    token_reader Nothing (is symbol.Open) (sign symbol.Open) open_stands _ d _ (λ _.
+    then_reader Nothing BodyNext (λ _ g. IsBody g) (λ body _ _ next. Is (is symbol.Close) (λ _. Is (is symbol.Semicolon) (λ _. next (record { name = name; file = content_of file; body = body })))) d body_at _ (body_reader d)
+    (λ body. token_reader Nothing (is symbol.Close) (sign symbol.Close) close_stands _ d _ (λ _.
+    token_reader Nothing (is symbol.Semicolon) (sign symbol.Semicolon) semicolon_stands _ d _ (λ _. pure_reader Nothing d (record { name = name; file = content_of file; body = body }))))
+    (λ a d' g next avoids t ts s h. elim s [ inl comma ↦ not_both symbol.Comma symbol.Close t refl comma h.0 | inr negation ↦ not_both symbol.Not symbol.Close t refl negation h.0 ]))))
 
 -- behind the word TABLE
 abbrev Tabled : Token → Phrase TableText
@@ -46,8 +46,8 @@ Tabled _ _ g next = IsName (λ name. Is (is symbol.From) (λ _. Is (is symbol.Te
 
 tabled_reader : (t : Token) (d : ℕ)
     → Reader Nothing (Tabled t) d
-      (λ ts. name_at ts >>= λ name. token_at (is symbol.From) name.1 >>= λ from. token_at (is symbol.Text) from.1 >>= λ file. token_at (is symbol.Open) file.1 >>= λ paren. body_at paren.1 >>= λ body.
-      token_at (is symbol.Close) body.1 >>= λ close. token_at (is symbol.Semicolon) close.1 >>= λ semicolon. Ok (record { name = name.0; file = content_of file.0; body = body.0 }, semicolon.1))
+    (λ ts. name_at ts >>= λ name. token_at (is symbol.From) name.1 >>= λ from. token_at (is symbol.Text) from.1 >>= λ file. token_at (is symbol.Open) file.1 >>= λ paren. body_at paren.1 >>= λ body.
+    token_at (is symbol.Close) body.1 >>= λ close. token_at (is symbol.Semicolon) close.1 >>= λ semicolon. Ok (record { name = name.0; file = content_of file.0; body = body.0 }, semicolon.1))
 tabled_reader t d = then_reader Nothing Nothing (λ _ _. IsName) _ d name_at _ (name_reader Nothing d) (λ name. named_reader name d) (λ a d' g next avoids u ts s h. s)
 
 abbrev Table : Phrase TableText

@@ -1,9 +1,9 @@
 -- What reading a schema answers is right.
-use Rattle.std.proofs.Common.{◌≡◌, ◌≤◌, ◌+◌, ℕ, zero, List, [], ◌∷◌, ◌++◌, length, Result, Ok, Err, refl, sym, ◌∙◌, ap, arith, append-nil, length-append, MatchResult}
+use Rattle.std.proofs.Common.{◌≡◌, ◌≤◌, ℕ, List, [], ◌∷◌, ◌++◌, length, Result, Ok, Err, refl, sym, ◌∙◌, arith, append-nil, length-append, MatchResult}
 use Rattle.pm_lexer.specs.declared.token.Token.{Token}
-use Rattle.pm_lexer.specs.Language.{Lang, Gate, never, always}
+use Rattle.pm_lexer.specs.Language.{Gate, never, always}
 use Rattle.pm_lexer.specs.Reading.{Stop, expected, too_deep, too_many, Read, place_of}
-use Rattle.pm_lexer.proofs.Phrases.{Phrase, Next, Avoids, Heads, heads_same, Began, Cause, no_phrase, deeper, longer, stop_at, Where, Goes, Taken, Faulted, Fault, Law, Nothing}
+use Rattle.pm_lexer.proofs.Phrases.{Phrase, Next, Avoids, Heads, heads_same, Began, Cause, no_phrase, deeper, longer, stop_at, Where, Goes, Taken, Law, Nothing}
 use Rattle.pm_schema.specs.declared.tree.TableText.{TableText}
 use Rattle.pm_schema.specs.Grammar.{IsSchema}
 use Rattle.pm_schema.specs.declared.fault.ReadBad.{ReadBad}
@@ -30,11 +30,13 @@ Ends tables found rest = (found ≡ tables) × (rest ≡ [])
 
 right_at_end : (seen : List Token) (tables : List TableText) → Taken Nothing Schema 0 seen (tables, []) → Right seen (Ok tables)
 right_at_end seen tables t = rw t.is (
-    t.took.keeps 0 never (Ends tables) [] (omega arith) (refl, refl),
-    λ others h. (t.took.only 0 never (Ends others) [] (λ a u us s n. s) refl h).0)
+  t.took.keeps 0 never (Ends tables) [] (omega arith) (refl, refl),
+  λ others h. (t.took.only 0 never (Ends others) [] (λ a u us s n. s) refl h).0,
+)
 
 right_behind : (seen : List Token) (tables : List TableText) (u : Token) (us : List Token) → Taken Nothing Schema 0 seen (tables, u ∷ us) → Right seen (Err (expected u.at))
-right_behind seen tables u us t = (record {
+right_behind seen tables u us t = (
+  record {
     front = t.front;
     rest = u ∷ us;
     more = [];
@@ -43,7 +45,9 @@ right_behind seen tables u us t = (record {
     place = refl;
     begins = t.took.keeps 0 (within []) (Ends tables) [] (omega arith) (refl, refl);
     none = λ w others like h. ends w like (t.took.only 0 always (Ends others) w (λ a v vs s n. s) like h).1;
-  }, λ others h. full (t.took.only 0 never (Ends others) (u ∷ us) (λ a v vs s n. s) refl (rw t.is at h)).1)
+  },
+  λ others h. full (t.took.only 0 never (Ends others) (u ∷ us) (λ a v vs s n. s) refl (rw t.is at h)).1,
+)
   where
     full : u ∷ us ≡ [] → ⊥
     full e = cc e
@@ -70,34 +74,40 @@ no_text seen front rest cause is dead where' tables h = dead 0 never (Ends table
 
 by_cause : (seen front rest : List Token) (stop : Stop) (cause : Cause) → seen ≡ front ++ rest → Begun front → stop ≡ stop_at cause (place_of rest) → Dead front rest cause → Goes Schema 0 front rest cause → Right seen (Err stop)
 by_cause seen front rest stop no_phrase is b place dead goes =
-    rw place (record {
-      front = front;
-      rest = rest;
-      more = b.0;
-      tables = b.1;
-      is = is;
-      place = refl;
-      begins = b.2;
-      none = λ w others like h. dead 0 always (Ends others) w tt (λ a u us s n. s) like h;
-    }, no_text seen front rest no_phrase is dead tt)
+    rw place (
+      record {
+        front = front;
+        rest = rest;
+        more = b.0;
+        tables = b.1;
+        is = is;
+        place = refl;
+        begins = b.2;
+        none = λ w others like h. dead 0 always (Ends others) w tt (λ a u us s n. s) like h;
+      },
+      no_text seen front rest no_phrase is dead tt,
+    )
 by_cause seen front rest stop deeper is b place dead goes =
     let on = goes.1 in
     let v = on.began in
     absurd (dead 0 always (Ends v.value) (on.token ∷ (v.more ++ [])) refl (λ a u us s n. s) (first_like rest on.token on.others (v.more ++ []) on.is)
-      (v.ends goes.0 always (Ends v.value) [] (omega arith) (λ ts le. tt) (refl, refl)))
+    (v.ends goes.0 always (Ends v.value) [] (omega arith) (λ ts le. tt) (refl, refl)))
 by_cause seen front rest stop longer is b place dead goes =
     let v = goes.began in
-    rw (place, goes.is) (record {
-      front = front;
-      token = goes.token;
-      rest = goes.others;
-      more = v.more;
-      tables = v.value;
-      is = rw goes.is at is;
-      place = refl;
-      begins = rw append-nil at (v.ends 0 (within (goes.token ∷ v.more)) (Ends v.value) [] (omega arith) (λ ts le. shorter_than ts v.more goes.token le) (refl, refl));
-      none = λ w others h. dead 0 (within w) (Ends others) (goes.token ∷ w) (λ ts le g. longer_than ts w goes.token le g) (λ a u us s n. s) (first_like rest goes.token goes.others w goes.is) h;
-    }, no_text seen front rest longer is dead (λ ts le h. h))
+    rw (place, goes.is) (
+      record {
+        front = front;
+        token = goes.token;
+        rest = goes.others;
+        more = v.more;
+        tables = v.value;
+        is = rw goes.is at is;
+        place = refl;
+        begins = rw append-nil at (v.ends 0 (within (goes.token ∷ v.more)) (Ends v.value) [] (omega arith) (λ ts le. shorter_than ts v.more goes.token le) (refl, refl));
+        none = λ w others h. dead 0 (within w) (Ends others) (goes.token ∷ w) (λ ts le g. longer_than ts w goes.token le g) (λ a u us s n. s) (first_like rest goes.token goes.others w goes.is) h;
+      },
+      no_text seen front rest longer is dead (λ ts le h. h),
+    )
   where
     longer_than : (ts w : List Token) (t : Token) → length (t ∷ w) ≤ length ts → length ts ≤ length w → ⊥
     longer_than ts w t a b = omega arith

@@ -1,6 +1,6 @@
 -- The grammar of schema texts: one definition for each production. `Is (stands X)` is the token X, `⊎` stands between alternatives, and
 -- what follows a phrase is given its tree. The gate says where an entry past the limit of its list may begin.
-use Rattle.std.specs.Prelude.{◌≡◌, ◌⊎◌, ◌≤◌, ℕ, zero, suc, Bool, true, false, List, [], ◌∷◌, ◌++◌, Option, Some, None, length}
+use Rattle.std.specs.Prelude.{◌⊎◌, Bool, true, false, List, [], ◌∷◌, Option, Some, None}
 use Rattle.pm_lexer.specs.declared.token.Token.{Token}
 use Rattle.pm_lexer.specs.declared.symbol.Symbol.TheVariants as symbol
 use Rattle.pm_lexer.specs.Pieces.{content_of}

@@ -1,5 +1,5 @@
 -- What tables that keep the rules declare, and when tokens are a schema or break a rule.
-use Rattle.std.specs.Prelude.{◌≡◌, ◌⊎◌, ◌+◌, ℕ, List, [], ◌∷◌, Option, Some, None, Result, Ok, Err, map, if◌then◌else◌}
+use Rattle.std.specs.Prelude.{◌≡◌, ◌+◌, ℕ, List, [], ◌∷◌, Option, Some, None, Result, Ok, Err, map, if◌then◌else◌}
 use Rattle.std.specs.Str.{bytes_eq}
 use Rattle.pm_lexer.specs.declared.token.Token.{Token}
 use Rattle.pm_values.specs.declared.table.ColumnDecl.{ColumnDecl}

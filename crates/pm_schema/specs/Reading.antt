@@ -4,7 +4,7 @@ use Rattle.pm_lexer.specs.declared.token.Token.{Token}
 use Rattle.pm_lexer.specs.declared.symbol.Symbol.TheVariants as symbol
 use Rattle.pm_lexer.specs.Symbol.{is}
 use Rattle.pm_lexer.specs.Pieces.{content_of}
-use Rattle.pm_lexer.specs.Reading.{Stop, expected, too_deep, too_many, Read, ◌>>=◌, place_of, sees, token_at, entry_at, more_at, list_at}
+use Rattle.pm_lexer.specs.Reading.{Stop, expected, too_many, Read, ◌>>=◌, sees, token_at, entry_at, more_at, list_at}
 use Rattle.pm_values.specs.declared.value.Kind.{Kind}
 use Rattle.pm_values.specs.declared.value.Kind.TheVariants as kind
 use Rattle.pm_schema.specs.declared.fault.ReadBad.{ReadBad}
@@ -68,9 +68,9 @@ unfoldable pub further_at : ℕ → List ColumnText → List Token → Read Body
 further_at zero before ts = Ok (plain_body before, ts)
 further_at (suc n) before ts =
     if sees (is symbol.Comma) ts then
-      (if sees (stands terminal.Key) (drop 1 ts) then keys_at before (drop 1 (drop 1 ts))
-      else (if sees (is symbol.Order) (drop 1 ts) then orders_at before (drop 1 (drop 1 ts))
-      else (next_column_at before (drop 1 ts) >>= λ column. further_at n (before ++ column.0 ∷ []) column.1)))
+    (if sees (stands terminal.Key) (drop 1 ts) then keys_at before (drop 1 (drop 1 ts))
+    else (if sees (is symbol.Order) (drop 1 ts) then orders_at before (drop 1 (drop 1 ts))
+    else (next_column_at before (drop 1 ts) >>= λ column. further_at n (before ++ column.0 ∷ []) column.1)))
     else Ok (plain_body before, ts)
 
 unfoldable pub body_at : List Token → Read Body

@@ -1,5 +1,5 @@
 -- The rules that the tables of a schema keep, and where they are broken.
-use Rattle.std.specs.Prelude.{◌≡◌, ℕ, zero, suc, Bool, true, false, ◌&&◌, ◌||◌, ◌==◌, ◌+◌, List, [], ◌∷◌, ◌++◌, Option, Some, None, if◌then◌else◌, take, not, nat_lt, fold}
+use Rattle.std.specs.Prelude.{ℕ, Bool, true, false, ◌&&◌, ◌||◌, ◌==◌, ◌+◌, List, [], ◌∷◌, ◌++◌, Option, Some, None, if◌then◌else◌, take, nat_lt, fold}
 use Rattle.std.specs.Str.{bytes_eq}
 use Rattle.pm_schema.specs.declared.tree.PlacedName.{PlacedName}
 use Rattle.pm_schema.specs.declared.tree.ColumnText.{ColumnText}

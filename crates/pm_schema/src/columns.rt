@@ -69,14 +69,25 @@ fn nullable(tokens: &[Token]) -> Result<(bool, &[Token]), ReadBad>
 
 // column = name kind [ NOT NULL ]
 #[tactic(auto, unfolding(crate::specs::Reading::column_at))]
-fn column(alloc: Global, names: Terminal, tokens: &[Token]) -> Result<(ColumnText, &[Token]), ReadBad>
+fn column(
+    alloc: Global,
+    names: Terminal,
+    tokens: &[Token],
+) -> Result<(ColumnText, &[Token]), ReadBad>
     ensures { Gives (λ x. (x.0, x.1.now)) result (column_at (stands names) tokens.now) }
 {
     let (first, rest) = token(names, tokens)?;
     let (kind, rest) = kind(rest)?;
     let (nullable, rest) = nullable(rest)?;
     let name = placed(alloc, first)?;
-    Ok((ColumnText { name, kind, nullable }, rest))
+    Ok((
+        ColumnText {
+            name,
+            kind,
+            nullable,
+        },
+        rest,
+    ))
 }
 
 // A name, or why there is none past the limit.
@@ -91,7 +102,11 @@ fn next_name(alloc: Global, past: bool, tokens: &[Token]) -> Result<(PlacedName,
 }
 
 // Further names, each behind a comma.
-fn more_names(alloc: Global, mut names: PlacedNames, mut rest: &[Token]) -> Result<(PlacedNames, &[Token]), ReadBad>
+fn more_names(
+    alloc: Global,
+    mut names: PlacedNames,
+    mut rest: &[Token],
+) -> Result<(PlacedNames, &[Token]), ReadBad>
     ensures { Gives (λ x. (x.0, x.1.now)) result (more_at (is symbol.Comma) (token_at (is symbol.Comma)) (token_at (stands terminal.Name)) (λ _. name_at) 8 (length rest.entry.now) names rest.entry.now) }
 {
     'names: for _ in 0..rest.len() {
@@ -148,18 +163,36 @@ fn keys(alloc: Global, columns: ColumnTexts, tokens: &[Token]) -> Result<(Body, 
     let (key, rest) = names(alloc, tokens)?;
     let key = Some(key);
     let (order, rest) = order(alloc, rest)?;
-    Ok((Body { columns, key, order }, rest))
+    Ok((
+        Body {
+            columns,
+            key,
+            order,
+        },
+        rest,
+    ))
 }
 
 // Behind the columns and the word ORDER.
 #[tactic(auto, unfolding(crate::specs::Reading::orders_at))]
-fn orders(alloc: Global, columns: ColumnTexts, tokens: &[Token]) -> Result<(Body, &[Token]), ReadBad>
+fn orders(
+    alloc: Global,
+    columns: ColumnTexts,
+    tokens: &[Token],
+) -> Result<(Body, &[Token]), ReadBad>
     ensures { Gives (λ x. (x.0, x.1.now)) result (orders_at columns tokens.now) }
 {
     let (order, rest) = names(alloc, tokens)?;
     let key = None;
     let order = Some(order);
-    Ok((Body { columns, key, order }, rest))
+    Ok((
+        Body {
+            columns,
+            key,
+            order,
+        },
+        rest,
+    ))
 }
 
 // Columns without the lists of KEY and ORDER.
@@ -174,7 +207,11 @@ fn plain(columns: ColumnTexts) -> Body
 }
 
 // A further column, or why there is none past the limit.
-fn next_column(alloc: Global, past: bool, tokens: &[Token]) -> Result<(ColumnText, &[Token]), ReadBad>
+fn next_column(
+    alloc: Global,
+    past: bool,
+    tokens: &[Token],
+) -> Result<(ColumnText, &[Token]), ReadBad>
     ensures { Gives (λ x. (x.0, x.1.now)) result (entry_at past (token_at (is symbol.Name)) (column_at (is symbol.Name)) tokens.now) }
 {
     if past {
@@ -185,7 +222,11 @@ fn next_column(alloc: Global, past: bool, tokens: &[Token]) -> Result<(ColumnTex
 }
 
 // What follows a column: further columns, and the lists of KEY and ORDER.
-fn further(alloc: Global, mut columns: ColumnTexts, mut rest: &[Token]) -> Result<(Body, &[Token]), ReadBad>
+fn further(
+    alloc: Global,
+    mut columns: ColumnTexts,
+    mut rest: &[Token],
+) -> Result<(Body, &[Token]), ReadBad>
     ensures { Gives (λ x. (x.0, x.1.now)) result (further_at (length rest.entry.now) columns rest.entry.now) }
 {
     'columns: for _ in 0..rest.len() {

@@ -27,7 +27,11 @@ fn column_number(columns: &[ColumnText], text: &[u8]) -> Result<u32, AllocError>
 }
 
 // The numbers of the columns that are named.
-fn column_numbers(alloc: Global, columns: &[ColumnText], names: &[PlacedName]) -> Result<Columns, AllocError>
+fn column_numbers(
+    alloc: Global,
+    columns: &[ColumnText],
+    names: &[PlacedName],
+) -> Result<Columns, AllocError>
     ensures { IfOk result (λ numbers. numbers ≡ map (number_in columns.now) names.now) }
 {
     let mut numbers = Columns::new(alloc);
@@ -40,7 +44,11 @@ fn column_numbers(alloc: Global, columns: &[ColumnText], names: &[PlacedName]) -
     Ok(numbers)
 }
 
-fn numbers(alloc: Global, columns: &[ColumnText], names: &Option<PlacedNames>) -> Result<Option<Columns>, AllocError>
+fn numbers(
+    alloc: Global,
+    columns: &[ColumnText],
+    names: &Option<PlacedNames>,
+) -> Result<Option<Columns>, AllocError>
     ensures { IfOk result (λ found. found ≡ numbers columns.now names.now) }
 {
     match names {
@@ -55,7 +63,11 @@ fn declared_column(alloc: Global, column: &ColumnText) -> Result<ColumnDecl, All
     let name = column.name.text.copy(alloc)?;
     let kind = column.kind;
     let nullable = column.nullable;
-    Ok(ColumnDecl { name, kind, nullable })
+    Ok(ColumnDecl {
+        name,
+        kind,
+        nullable,
+    })
 }
 
 fn declared_columns(alloc: Global, columns: &[ColumnText]) -> Result<ColumnDecls, AllocError>

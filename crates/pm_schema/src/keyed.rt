@@ -21,11 +21,7 @@ fn keyed_before(alloc: Global, token: &Token, rest: &[Token]) -> Result<Token, A
     ensures { IfOk result (λ seen. seen ≡ keyed_before rest.now token.now) }
 {
     let key = is_word(Word::Key, token) && sees(Terminal::Symbol(Symbol::Open), rest);
-    let kind = if key {
-        TokenKind::Reserved
-    } else {
-        token.kind
-    };
+    let kind = if key { TokenKind::Reserved } else { token.kind };
     let slice = token.slice.copy(alloc)?;
     let at = token.at;
     Ok(Token { kind, slice, at })

@@ -3,16 +3,19 @@
 //! the readers answer what the reading functions there say.
 #![tactic(auto)]
 
-pub mod fault;
-pub mod tree;
-pub mod terminals;
-pub mod keyed;
 pub mod columns;
-pub mod tables;
+pub mod declared;
+pub mod fault;
+pub mod keyed;
 pub mod read;
 pub mod rules;
-pub mod declared;
 pub mod schema;
+pub mod tables;
+pub mod terminals;
+pub mod tree;
 
 pub use fault::SchemaBad;
 pub use schema::{Schema, read_schema};
+
+#[cfg(test)]
+mod tests;

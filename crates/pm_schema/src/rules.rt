@@ -149,7 +149,12 @@ fn noted(found: Option<Breach>, broken: bool, at: u64, rule: Rule) -> Option<Bre
 
 // The first breach, of those found and of this rule by these names.
 #[tactic(auto, using(crate::proofs::Breaches::breaches_step, crate::proofs::Breaches::breaches_end))]
-fn check<N: Named>(rule: Rule, columns: &[ColumnText], items: &[N], so_far: Option<Breach>) -> Option<Breach>
+fn check<N: Named>(
+    rule: Rule,
+    columns: &[ColumnText],
+    items: &[N],
+    so_far: Option<Breach>,
+) -> Option<Breach>
     ensures { result ≡ fold earlier so_far (breaches N.name_of rule columns.now items.now) }
 {
     let mut found = so_far;
@@ -157,7 +162,12 @@ fn check<N: Named>(rule: Rule, columns: &[ColumnText], items: &[N], so_far: Opti
     let mut i = 0;
     'items: while let Some((item, after)) = first(rest) {
         let name = item.name();
-        found = noted(found, breaks(rule, columns, &items[..i], name), name.at, rule);
+        found = noted(
+            found,
+            breaks(rule, columns, &items[..i], name),
+            name.at,
+            rule,
+        );
         i += 1;
         rest = after;
     }
@@ -166,7 +176,11 @@ fn check<N: Named>(rule: Rule, columns: &[ColumnText], items: &[N], so_far: Opti
 
 // The first breach, of those found and of the rules of KEY.
 #[tactic(auto, using(crate::proofs::Breaches::folds))]
-fn check_key(columns: &[ColumnText], key: &Option<PlacedNames>, found: Option<Breach>) -> Option<Breach>
+fn check_key(
+    columns: &[ColumnText],
+    key: &Option<PlacedNames>,
+    found: Option<Breach>,
+) -> Option<Breach>
     ensures { result ≡ fold earlier found (key_breaches columns.now key.now) }
 {
     match key {
@@ -178,7 +192,11 @@ fn check_key(columns: &[ColumnText], key: &Option<PlacedNames>, found: Option<Br
     }
 }
 
-fn check_order(columns: &[ColumnText], order: &Option<PlacedNames>, found: Option<Breach>) -> Option<Breach>
+fn check_order(
+    columns: &[ColumnText],
+    order: &Option<PlacedNames>,
+    found: Option<Breach>,
+) -> Option<Breach>
     ensures { result ≡ fold earlier found (order_breaches columns.now order.now) }
 {
     match order {

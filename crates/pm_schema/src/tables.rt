@@ -44,7 +44,11 @@ fn next_table(alloc: Global, past: bool, tokens: &[Token]) -> Result<(TableText,
 }
 
 // Further tables.
-fn more_tables(alloc: Global, mut tables: TableTexts, mut rest: &[Token]) -> Result<(TableTexts, &[Token]), ReadBad>
+fn more_tables(
+    alloc: Global,
+    mut tables: TableTexts,
+    mut rest: &[Token],
+) -> Result<(TableTexts, &[Token]), ReadBad>
     ensures { Gives (λ x. (x.0, x.1.now)) result (more_tables_at (length rest.entry.now) tables rest.entry.now) }
 {
     'tables: for _ in 0..rest.len() {

@@ -1,4 +1,4 @@
-use Rattle.std.proofs.Common.{rules, arith, ◌≡◌, ◌+◌, ◌-◌, ◌∷◌, [], ◌++◌, length, drop, Ok, sym, ◌∙◌, refl}
+use Rattle.std.proofs.Common.{arith, ◌+◌, ◌-◌, length, sym, ◌∙◌}
 use Rattle.std.proofs.lemmas.Result.{err_from_is_err_and}
 use Rattle.pm_schema.proofs.Steps.{fails_through, further_ends, further_stops, further_keys, further_orders, further_took, further_fails}
 use Rattle.pm_schema.proofs.columns.further.Goals as goal

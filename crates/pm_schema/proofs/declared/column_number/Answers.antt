@@ -1,4 +1,4 @@
-use Rattle.std.proofs.Common.{rules, ◌≡◌, sym, ◌∙◌}
+use Rattle.std.proofs.Common.{rules, ◌∙◌}
 use Rattle.pm_schema.proofs.Maps.{number_here, number_behind, number_ends}
 use Rattle.pm_schema.proofs.declared.column_number.Goals as goal
 

@@ -1,5 +1,5 @@
-use Rattle.std.proofs.Common.{◌≡◌, sym, ◌∙◌}
-use Rattle.pm_schema.specs.Meaning.{number_in, declared_column, declared_table}
+use Rattle.std.proofs.Common.{◌∙◌}
+use Rattle.pm_schema.specs.Meaning.{number_in}
 use Rattle.pm_schema.proofs.Maps.{map_step, map_ends}
 use Rattle.pm_schema.proofs.declared.column_numbers.Goals as goal
 

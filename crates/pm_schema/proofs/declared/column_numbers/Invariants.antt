@@ -1,5 +1,5 @@
-use Rattle.std.proofs.Common.{◌≡◌, ◌++◌, ◌+◌, length, map}
-use Rattle.pm_schema.specs.Meaning.{column_number, number_in, declared_column, declared_table}
+use Rattle.std.proofs.Common.{◌≡◌, ◌++◌, length, map}
+use Rattle.pm_schema.specs.Meaning.{number_in}
 use Rattle.pm_schema.proofs.declared.column_numbers.Given as goal
 
 abbrev pub invariant-names : goal.invariant-names

@@ -1,5 +1,5 @@
-use Rattle.std.proofs.Common.{◌≡◌, ◌++◌, ◌+◌, length, map}
-use Rattle.pm_schema.specs.Meaning.{column_number, number_in, declared_column, declared_table}
+use Rattle.std.proofs.Common.{◌≡◌, ◌++◌, length, map}
+use Rattle.pm_schema.specs.Meaning.{declared_column}
 use Rattle.pm_schema.proofs.declared.declared_columns.Given as goal
 
 abbrev pub invariant-columns : goal.invariant-columns

@@ -1,4 +1,4 @@
-use Rattle.std.proofs.Common.{◌≡◌, sym, ◌∙◌}
+use Rattle.std.proofs.Common.{◌∙◌}
 use Rattle.pm_schema.proofs.Steps.{keyed_step, keyed_ends}
 use Rattle.pm_schema.proofs.keyed.keyed.Goals as goal
 

@@ -1,4 +1,4 @@
-use Rattle.std.proofs.Common.{rules, ◌≡◌, sym, ◌∙◌}
+use Rattle.std.proofs.Common.{rules, sym, ◌∙◌}
 use Rattle.pm_schema.proofs.Breaches.{nullable_found}
 use Rattle.pm_schema.proofs.rules.is_nullable.Goals as goal
 

@@ -1,4 +1,3 @@
-use Rattle.std.proofs.Common.{◌≡◌}
 use Rattle.pm_schema.specs.declared.fault.SchemaBad.TheVariants as bad
 use Rattle.pm_schema.specs.declared.rules.Rule.TheVariants as rule
 use Rattle.pm_schema.specs.Terminals.{keyed}

@@ -1,4 +1,4 @@
-use Rattle.std.proofs.Common.{rules, arith, ◌≡◌, ◌+◌, ◌-◌, ◌∷◌, [], ◌++◌, length, drop, Ok, sym, ◌∙◌, refl}
+use Rattle.std.proofs.Common.{rules, arith, ◌+◌, ◌-◌, length, sym, ◌∙◌, refl}
 use Rattle.std.proofs.lemmas.Result.{err_from_is_err_and}
 use Rattle.pm_lexer.specs.Reading.{token_at}
 use Rattle.pm_lexer.proofs.Turns.{more_ends, more_stops, more_took, more_fails}
