@@ -10,3 +10,4 @@ pub mod Files
 pub mod Chosen
 pub mod Walks
 pub mod Fits
+pub mod Fitting

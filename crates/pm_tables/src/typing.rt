@@ -1,5 +1,5 @@
 ghost use Rattle.std.specs.Prelude.{◌≡◌, ◌+◌, ◌^◌, ◌<◌, ◌≤◌, [], All, IfErr, IfOk, MatchResult, get_or, length, slice_range};
-ghost use Rattle.pm_values.specs.Table.{HasScale};
+ghost use Rattle.pm_values.specs.Table.{FitsColumns, HasScale};
 ghost use Rattle.pm_tables.specs.Typing.{FaultsFirst, FaultsRecord, WritesRow, WritesRows};
 
 use crate::fault::DataBad;
@@ -24,6 +24,8 @@ pub fn type_rows(
     requires order { from ≤ to }
     requires within { to ≤ length list.now }
     ensures typed { IfOk result (WritesRows decl.now.columns (slice_range list.now from to)) }
+    ensures fit { IfOk result (All (FitsColumns decl.now.columns)) }
+    ensures count { IfOk result (λ rows. length rows + from ≡ to) }
     ensures refused { IfErr result (FaultsFirst decl.now.columns list.now from to) }
 {
     let mut rows = Rows::new(alloc);
