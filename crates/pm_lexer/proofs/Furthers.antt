@@ -92,10 +92,10 @@ further_law {A} {S} {T} {SP} {Sep} {P} {starts} {sep} {peek} {p} {d} limit k (su
           elim (nat_le limit (length before)) as (λ b. nat_le limit (length before) ≡ b → Law T (Some (Entry limit Sep P before) s) d r (entry_at b peek (p s) r >>= λ a. more_at starts sep peek p limit m (before ++ a.0 ∷ []) a.1)) [
             | true ↦ λ f. rw (refused_bind {A = A} (peek r) (too_many (place_of r)) (λ a. more_at starts sep peek p limit m (before ++ a.0 ∷ []) a.1)) (past_law T SP limit Sep P before s d peek k.within k.apart (k.looks s) (k.reads s).able (past limit (length before) f) r (peek r) refl)
             | false ↦ λ f. same_law T _ _ d r (p s r >>= λ a. more_at starts sep peek p limit m (before ++ a.0 ∷ []) a.1) (entry_same limit Sep P before s (not_past limit (length before) f))
-              (some_law T SP (P s) (More limit Sep P before) d r (p s r) (λ a. more_at starts sep peek p limit m (before ++ a.0 ∷ []) a.1) ((k.reads s).law r)
-              (λ a r' er'. further_law limit k m (before ++ a ∷ []) r' (let shorter_still = no_longer r (a, r') (rw er' at ((k.reads s).law r)) in omega arith))
-              (λ a. further_able limit Sep P (before ++ a ∷ []) d)
-              (λ a d' g next avoids t us st h. more_clear T SP limit Sep P before k.within k.apart h.0 a d' g next avoids t us st h.1))
+                (some_law T SP (P s) (More limit Sep P before) d r (p s r) (λ a. more_at starts sep peek p limit m (before ++ a.0 ∷ []) a.1) ((k.reads s).law r)
+                (λ a r' er'. further_law limit k m (before ++ a ∷ []) r' (let shorter_still = no_longer r (a, r') (rw er' at ((k.reads s).law r)) in omega arith))
+                (λ a. further_able limit Sep P (before ++ a ∷ []) d)
+                (λ a d' g next avoids t us st h. more_clear T SP limit Sep P before k.within k.apart h.0 a d' g next avoids t us st h.1))
           ] refl)
       | false ↦ λ e. stops_law limit k before ts e
     ] refl
@@ -127,8 +127,8 @@ list_reader T SP P sep t₀ e₀ peek limit d p reads looks inT apart within =
     let k = list_parts T SP P sep t₀ e₀ peek d p reads looks inT apart within in
     record {
       law = λ ts. then_law T SP P (λ a. Further limit (λ _ _. Is sep) (λ _. P) (a ∷ [])) d ts (p ts) (λ first. more_at sep (token_at sep) peek (λ _. p) limit (length first.1) (first.0 ∷ []) first.1) (reads.law ts)
-        (λ a r e. further_law limit k (length r) (a ∷ []) r (omega arith)) (λ a. further_able limit _ _ (a ∷ []) d)
-        (λ a d' g next avoids t us s h. list_clear T SP P sep limit apart within a d' g next avoids t us s h.0 h.1);
+          (λ a r e. further_law limit k (length r) (a ∷ []) r (omega arith)) (λ a. further_able limit _ _ (a ∷ []) d)
+          (λ a d' g next avoids t us s h. list_clear T SP P sep limit apart within a d' g next avoids t us s h.0 h.1);
       able = then_began (λ a. further_able limit (λ _ _. Is sep) (λ _. P) (a ∷ []) d) reads.able;
     }
 
@@ -143,16 +143,16 @@ token_peek {A} S P test d none able began = record { stops = stops; goes = goes 
     stops : (ts : List Token) (e : Stop) → token_at test ts ≡ Err e → Fault S P d [] ts e
     stops [] e is = let same : expected 0 ≡ e = err_same is in rw (← same) (first_fault S P d [] (none [] refl) able)
     stops (t ∷ ts) e is = elim (test t) as (λ b. test t ≡ b → (let r : Read Token = if b then Ok (t, ts) else Err (expected t.at) in r) ≡ Err e → Fault S P d [] (t ∷ ts) e) [
-        | true ↦ λ f i. absurd (let bad : Ok (t, ts) ≡ Err e = i in cc)
-        | false ↦ λ f i. let same : expected t.at ≡ e = err_same i in rw (← same) (first_fault S P d (t ∷ ts) (none (t ∷ ts) f) able)
-      ] refl is
+      | true ↦ λ f i. absurd (let bad : Ok (t, ts) ≡ Err e = i in cc)
+      | false ↦ λ f i. let same : expected t.at ≡ e = err_same i in rw (← same) (first_fault S P d (t ∷ ts) (none (t ∷ ts) f) able)
+    ] refl is
 
     goes : (ts : List Token) (x : Token × List Token) → token_at test ts ≡ Ok x → GoesOn P [] ts d
     goes [] x is = absurd (let bad : Err (expected 0) ≡ Ok x = is in cc)
     goes (t ∷ ts) x is = elim (test t) as (λ b. test t ≡ b → (let r : Read Token = if b then Ok (t, ts) else Err (expected t.at) in r) ≡ Ok x → GoesOn P [] (t ∷ ts) d) [
-        | true ↦ λ f i. record { token = t; others = ts; is = refl; began = began t f }
-        | false ↦ λ f i. absurd (let bad : Err (expected t.at) ≡ Ok x = i in cc)
-      ] refl is
+      | true ↦ λ f i. record { token = t; others = ts; is = refl; began = began t f }
+      | false ↦ λ f i. absurd (let bad : Err (expected t.at) ≡ Ok x = i in cc)
+    ] refl is
 
 -- a choice by the first token
 pub choice_reader : {A : Type 0} (S : Token → Type 0) (P Q : Phrase A) (test : Token → Bool) (d : ℕ) (p q : List Token → Read A) → Reader S P d p → Reader S Q d q

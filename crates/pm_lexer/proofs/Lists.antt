@@ -27,9 +27,9 @@ some_began {A} {B} {I} {P} R {d} {front} {tail} q v = record {
   more = v.more ++ (q v.value).more;
   value = (q v.value).value;
   ends = λ d' g next w le o h.
-    let o' : Open g (tail ++ (v.more ++ ((q v.value).more ++ w))) = rw append_assoc at o in
-    let r = (q v.value).ends d' g next w le (open_behind g v.more _ (open_behind g tail _ o')) h in
-    (r.0, rw append_assoc (v.ends d' g (λ a. R r.0 a d' g next) ((q v.value).more ++ w) le o' r.1));
+      let o' : Open g (tail ++ (v.more ++ ((q v.value).more ++ w))) = rw append_assoc at o in
+      let r = (q v.value).ends d' g next w le (open_behind g v.more _ (open_behind g tail _ o')) h in
+      (r.0, rw append_assoc (v.ends d' g (λ a. R r.0 a d' g next) ((q v.value).more ++ w) le o' r.1));
 }
 
 some_dead : {A B I : Type 0} (S SP : Token → Type 0) (P : Phrase A) (R : I → A → Phrase B) {d : ℕ} {front rest : List Token} {a : A} → Took SP P d front rest a → Clear SP S (Some R)
@@ -55,9 +55,9 @@ some_after_law {A} {B} {I} S SP P R {d} {ts} x (Err e) t clear l = record {
   rest = l.rest;
   is = joined ts t.front x.1 l.front l.rest t.is l.is;
   fault = fault_moved l.fault (λ n. d + n)
-    (λ d' g next w where' avoids heads h. l.fault.dead d' g next w where' avoids heads (some_dead S SP P R t.took clear l.front l.rest l.is d' g next w avoids heads h))
-    (λ n tail b. some_after R (d + n) l.front tail t.took (omega arith) (weaker_began (d + n) (omega arith) b))
-    (λ tail b. some_after R d l.front tail t.took (omega arith) b);
+      (λ d' g next w where' avoids heads h. l.fault.dead d' g next w where' avoids heads (some_dead S SP P R t.took clear l.front l.rest l.is d' g next w avoids heads h))
+      (λ n tail b. some_after R (d + n) l.front tail t.took (omega arith) (weaker_began (d + n) (omega arith) b))
+      (λ tail b. some_after R d l.front tail t.took (omega arith) b);
 }
 
 pub some_law : {A B I : Type 0} (S SP : Token → Type 0) (P : Phrase A) (R : I → A → Phrase B) (d : ℕ) (ts : List Token) (p : Read A) (q : A × List Token → Read B) → Law SP P d ts p
@@ -68,9 +68,9 @@ some_law {A} {B} {I} S SP P R d ts (Err e) q lp lq able clear = record {
   rest = lp.rest;
   is = lp.is;
   fault = fault_moved lp.fault (λ n. d + n)
-    (λ d' g next w where' avoids heads h. lp.fault.dead d' g (λ a. R h.0 a d' g next) w where' (λ a t ts s n. clear a d' g next avoids t ts s (h.0, n)) heads h.1)
-    (λ n tail b. some_began R (λ a. weaker_began (d + n) (omega arith) (able a)) (weaker_began (d + n) (omega arith) b))
-    (λ tail b. some_began R able b);
+      (λ d' g next w where' avoids heads h. lp.fault.dead d' g (λ a. R h.0 a d' g next) w where' (λ a t ts s n. clear a d' g next avoids t ts s (h.0, n)) heads h.1)
+      (λ n tail b. some_began R (λ a. weaker_began (d + n) (omega arith) (able a)) (weaker_began (d + n) (omega arith) b))
+      (λ tail b. some_began R able b);
 }
 
 -- what the first token of an entry past the limit says: there is no entry, or one begins
@@ -143,9 +143,9 @@ past_law {A} {S} T SP limit Sep P before s d peek within apart look able le ts (
   rest = ts;
   is = refl;
   fault = let f = look.stops ts e is in fault_moved f (λ n. n)
-    (λ d' g next w where' avoids heads h. f.dead d' g (λ a. More limit Sep P before h.0 a d' g next) w where'
+      (λ d' g next w where' avoids heads h. f.dead d' g (λ a. More limit Sep P before h.0 a d' g next) w where'
       (λ a t us st n. more_clear T SP limit Sep P before within apart h.0 a d' g next avoids t us st n) heads h.1.1)
-    (λ n tail b. entry_began limit Sep P before s n tail b) (λ tail b. entry_began limit Sep P before s d tail b);
+      (λ n tail b. entry_began limit Sep P before s n tail b) (λ tail b. entry_began limit Sep P before s d tail b);
 }
 past_law {A} {S} T SP limit Sep P before s d peek within apart look able le ts (Ok x) is = record {
   front = [];

@@ -23,9 +23,9 @@ single_quote : (q b : ℕ) (rest : List ℕ) → (b == q) ≡ true → single_qu
 unfolding single_quotes
 single_quote q b [] e = refl
 single_quote q b (c ∷ rest) e = elim (c == q) as (λ t. (if b == q && t then b ∷ single_quotes q rest else b ∷ single_quotes q (c ∷ rest)) ≡ b ∷ single_quotes q (if t then rest else c ∷ rest)) [
-    | true ↦ rw e refl
-    | false ↦ rw e refl
-  ]
+  | true ↦ rw e refl
+  | false ↦ rw e refl
+]
 
 -- up to and with the first quote
 pub singled : (q : ℕ) (xs : List ℕ) (i : ℕ) → IsFirst q xs i → single_quotes q xs ≡ take (i + 1) xs ++ single_quotes q (behind_quote q (drop (i + 1) xs))

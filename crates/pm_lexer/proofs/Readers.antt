@@ -63,8 +63,8 @@ then_began {A} {B} {P} {Q} {d} {front} {tail} q v = record {
   more = v.more ++ (q v.value).more;
   value = (q v.value).value;
   ends = λ d' g next w le o h.
-    let o' : Open g (tail ++ (v.more ++ ((q v.value).more ++ w))) = rw append_assoc at o in
-    rw append_assoc (v.ends d' g (λ a. Q a d' g next) ((q v.value).more ++ w) le o' ((q v.value).ends d' g next w le (open_behind g v.more _ (open_behind g tail _ o')) h));
+      let o' : Open g (tail ++ (v.more ++ ((q v.value).more ++ w))) = rw append_assoc at o in
+      rw append_assoc (v.ends d' g (λ a. Q a d' g next) ((q v.value).more ++ w) le o' ((q v.value).ends d' g next w le (open_behind g v.more _ (open_behind g tail _ o')) h));
 }
 
 -- behind a phrase that was taken
@@ -99,9 +99,9 @@ after_law {A} {B} S SP P Q {d} {ts} x (Err e) t clear l = record {
   rest = l.rest;
   is = joined ts t.front x.1 l.front l.rest t.is l.is;
   fault = fault_moved l.fault (λ n. d + n)
-    (λ d' g next w where' avoids heads h. l.fault.dead d' g next w where' avoids heads (after_dead S SP P Q t.took clear l.front l.rest l.is d' g next w avoids heads h))
-    (λ n tail b. after_began (d + n) l.front tail t.took (omega arith) (weaker_began (d + n) (omega arith) b))
-    (λ tail b. after_began d l.front tail t.took (omega arith) b);
+      (λ d' g next w where' avoids heads h. l.fault.dead d' g next w where' avoids heads (after_dead S SP P Q t.took clear l.front l.rest l.is d' g next w avoids heads h))
+      (λ n tail b. after_began (d + n) l.front tail t.took (omega arith) (weaker_began (d + n) (omega arith) b))
+      (λ tail b. after_began d l.front tail t.took (omega arith) b);
 }
 
 -- a reader behind a reader
@@ -113,9 +113,9 @@ then_law {A} {B} S SP P Q d ts (Err e) q lp lq able clear = record {
   rest = lp.rest;
   is = lp.is;
   fault = fault_moved lp.fault (λ n. d + n)
-    (λ d' g next w where' avoids heads h. lp.fault.dead d' g (λ a. Q a d' g next) w where' (λ a t ts s n. clear a d' g next avoids t ts s n) heads h)
-    (λ n tail b. then_began (λ a. weaker_began (d + n) (omega arith) (able a)) (weaker_began (d + n) (omega arith) b))
-    (λ tail b. then_began able b);
+      (λ d' g next w where' avoids heads h. lp.fault.dead d' g (λ a. Q a d' g next) w where' (λ a t ts s n. clear a d' g next avoids t ts s n) heads h)
+      (λ n tail b. then_began (λ a. weaker_began (d + n) (omega arith) (able a)) (weaker_began (d + n) (omega arith) b))
+      (λ tail b. then_began able b);
 }
 
 pub then_reader : {A B : Type 0} (S SP : Token → Type 0) (P : Phrase A) (Q : A → Phrase B) (d : ℕ) (p : List Token → Read A) (q : A × List Token → Read B) → Reader SP P d p
@@ -154,7 +154,7 @@ same_law S P Q d ts (Err e) same l = record {
   rest = l.rest;
   is = l.is;
   fault = fault_moved l.fault (λ n. n) (λ d' g next w where' avoids heads h. l.fault.dead d' g next w where' avoids heads (same.from d' g next _ h))
-    (λ n tail b. same_began P Q same b) (λ tail b. same_began P Q same b);
+      (λ n tail b. same_began P Q same b) (λ tail b. same_began P Q same b);
 }
 
 pub same_reader : {A : Type 0} (S : Token → Type 0) (P Q : Phrase A) (d : ℕ) (p : List Token → Read A) → Same P Q → Reader S P d p → Reader S Q d p
@@ -189,7 +189,7 @@ second_law S P Q d ts (Err e) other l = record {
   rest = l.rest;
   is = l.is;
   fault = fault_moved l.fault (λ n. n) (λ d' g next w where' avoids heads h. l.fault.dead d' g next w where' avoids heads (second_only S P Q ts l.front l.rest l.is other d' g next w avoids heads h))
-    (λ n tail b. second_began P Q b) (λ tail b. second_began P Q b);
+      (λ n tail b. second_began P Q b) (λ tail b. second_began P Q b);
 }
 
 swapped : {A : Type 0} (P Q : Phrase A) → Same (Or Q P) (Or P Q)
@@ -238,11 +238,11 @@ under_law {A} S P d ts (Err e) l = record {
   rest = l.rest;
   is = l.is;
   fault = fault_moved l.fault suc
-    (λ d'. elim d' as (λ n. (g : Gate) (next : Next A) (w : List Token) → Where l.fault.cause (suc d) n g w → Avoids S next → Heads l.rest w → Under P n g next (l.front ++ w) → ⊥) [
-      | zero ↦ λ g next w where' avoids heads h. h
-      | suc n ↦ λ g next w where' avoids heads h. l.fault.dead n g next w (where_under l.fault.cause d n g w where') avoids heads h
-    ])
-    (λ n tail b. under_began P b) (λ tail b. under_began P b);
+      (λ d'. elim d' as (λ n. (g : Gate) (next : Next A) (w : List Token) → Where l.fault.cause (suc d) n g w → Avoids S next → Heads l.rest w → Under P n g next (l.front ++ w) → ⊥) [
+        | zero ↦ λ g next w where' avoids heads h. h
+        | suc n ↦ λ g next w where' avoids heads h. l.fault.dead n g next w (where_under l.fault.cause d n g w where') avoids heads h
+      ])
+      (λ n tail b. under_began P b) (λ tail b. under_began P b);
 }
 
 pub under_reader : {A : Type 0} (S : Token → Type 0) (P : Phrase A) (d : ℕ) (p : List Token → Read A) → Reader S P d p → Reader S (Under P) (suc d) p

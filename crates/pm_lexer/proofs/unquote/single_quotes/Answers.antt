@@ -13,12 +13,12 @@ pieces-preserved c =
     record {
       is_text = search (rules, c.behind_quote-rest.utf8);
       read = c.pieces.invariant.read ∙ singled_more c.args.quote _ c.pieces.rest.now c.in-Some.at first
-        ∙ rw (c.in_ok-push_str-in-Some.ensures.bytes, c.split_at.ensures.front, c.behind_quote-rest.ensures, c.split_at.ensures.back) refl;
+          ∙ rw (c.in_ok-push_str-in-Some.ensures.bytes, c.split_at.ensures.front, c.behind_quote-rest.ensures, c.split_at.ensures.back) refl;
     }
 
 pub returns-in-None : goal.returns-in-None
 returns-in-None c =
     let none = rw c.as_bytes.ensures.value at c.in-None.ensures in
     let whole : c.as_str.result.now ≡ single_quotes c.args.quote c.args.text.now =
-      c.as_str.ensures.value ∙ c.in_ok-push_str-in-None.ensures.bytes ∙ sym (c.pieces.invariant.read ∙ ap (λ t. string_bytes c.pieces.single ++ t) (unquoted c.args.quote c.pieces.rest.now none)) in
+    c.as_str.ensures.value ∙ c.in_ok-push_str-in-None.ensures.bytes ∙ sym (c.pieces.invariant.read ∙ ap (λ t. string_bytes c.pieces.single ++ t) (unquoted c.args.quote c.pieces.rest.now none)) in
     rw whole at c.new.ensures
