@@ -1,3 +1,11 @@
+pub mod Parts
+pub mod Schemas
+pub mod Queries
+pub mod Numbers
+pub mod Tables
+pub mod Readings
+pub mod Verdicts
+pub mod Loading
 pub mod BoundLists
 pub mod PipeLists
 pub mod Drops
@@ -8,3 +16,6 @@ pub mod Declared
 pub mod UnderPlan
 pub mod RootRows
 pub mod Turns
+pub mod Sides
+pub mod Certain
+pub mod TopCall

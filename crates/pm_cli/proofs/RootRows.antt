@@ -1,10 +1,10 @@
 -- the root's rows are what the kinds of its columns say, and their texts are those of their columns
-use Rattle.std.proofs.Common.{◌≡◌, ℕ, zero, suc, ◌+◌, ◌<◌, ◌≤◌, Bool, true, false, cond, eqb, List, [], ◌∷◌, ◌++◌, length, map, take, get_or, refl, sym, ap, subst, ◌∙◌, arith}
+use Rattle.std.proofs.Common.{◌≡◌, ℕ, zero, suc, ◌+◌, ◌<◌, Bool, true, false, cond, eqb, List, [], ◌∷◌, ◌++◌, length, map, take, get_or, refl, sym, ap, subst, ◌∙◌, arith}
 use Rattle.std.proofs.lemmas.List.{take_more}
 use Rattle.std.proofs.lemmas.Option.{slice_get_within, get_or_from_slice_get}
 use Rattle.std.proofs.lemmas.List.Elements.{recursion_from_All}
 use Rattle.std.proofs.lemmas.Bool.{eq-eqb}
-use Rattle.std.specs.Prelude.{All, Option, None, Some, slice_get, ℤ}
+use Rattle.std.specs.Prelude.{All, Some, slice_get, ℤ}
 use Rattle.std.specs.List.{AllByRecursion, filter}
 use Rattle.pm_values.specs.declared.value.Value.{Value}
 use Rattle.pm_values.specs.declared.value.Value.TheVariants as value
@@ -14,15 +14,14 @@ use Rattle.pm_values.specs.declared.table.ColumnDecl.{ColumnDecl}
 use Rattle.pm_values.specs.Table.{Relation, IsRelation, IsOfKind, FitsColumn, FitsColumns, HasScale, IsScale}
 use Rattle.pm_values.specs.ValueText.{value_text, HasText}
 use Rattle.pm_plan.specs.declared.plan.Plan.{Plan}
-use Rattle.pm_plan.specs.Rows.{Row, Db, cell, pick}
+use Rattle.pm_plan.specs.Rows.{Row, Db, cell}
 use Rattle.pm_plan.specs.Tree.{tree_of}
-use Rattle.pm_plan.specs.Outputs.{output}
 use Rattle.pm_plan.specs.Events.{Event, events, rows_at}
 use Rattle.pm_plan.specs.Fits.{Fits, tree_over}
 use Rattle.pm_plan.proofs.EventLaws.{rows_at-events}
 use Rattle.pm_plan.proofs.Widths.{pick-all}
 use Rattle.pm_cli.specs.Ran.{Ran}
-use Rattle.pm_cli.specs.Ticks.{events_of, HasRootRow, last_row, last_event, IsOf, row_in}
+use Rattle.pm_cli.specs.Ticks.{HasRootRow, last_row, last_event, IsOf, row_in}
 use Rattle.pm_cli.specs.Text.{row_texts}
 
 -- one value per kind, and each has a text by its kind

@@ -1,5 +1,5 @@
 -- what a turn writes, put together from its parts
-use Rattle.std.proofs.Common.{◌≡◌, ◌≢◌, ℕ, ◌+◌, ◌<◌, ◌≤◌, Bool, true, false, cond, eqb, List, ◌++◌, length, take, get_or, refl, sym, ap, subst, ◌∙◌, arith, add-one, Option}
+use Rattle.std.proofs.Common.{◌≡◌, ℕ, ◌+◌, ◌<◌, ◌≤◌, false, cond, eqb, List, ◌++◌, length, get_or, refl, sym, ap, subst, ◌∙◌, arith, add-one, Option}
 use Rattle.std.proofs.lemmas.Bool.{eq-eqb}
 use Rattle.std.proofs.lemmas.Bool.Decides.{nat_tests}
 use Rattle.std.proofs.lemmas.List.{take_all}
@@ -8,7 +8,7 @@ use Rattle.pm_plan.specs.declared.plan.Plan.{Plan}
 use Rattle.pm_plan.specs.Rows.{Db}
 use Rattle.pm_plan.specs.Tree.{Tree, Scan, Project, tree_of}
 use Rattle.pm_plan.specs.Outputs.{output, whole_work}
-use Rattle.pm_plan.specs.Events.{events, rows_at, counts}
+use Rattle.pm_plan.specs.Events.{events, rows_at}
 use Rattle.pm_plan.specs.Moments.{counts_at, gauges_at}
 use Rattle.pm_plan.proofs.EventLaws.{length-events, rows_at-events}
 use Rattle.pm_lines.specs.Progress.{end_line}

@@ -1,19 +1,16 @@
 -- the numbers of each moment under a plan that fits: both bounds are the whole work, and the work is the events so far
-use Rattle.std.proofs.Common.{◌≡◌, ℕ, ◌+◌, ◌*◌, ◌<◌, ◌≤◌, ◌^◌, List, [], ◌∷◌, length, map, refl, sym, ap, subst, ◌∙◌, arith}
+use Rattle.std.proofs.Common.{◌≡◌, ℕ, ◌+◌, ◌≤◌, ◌^◌, [], ◌∷◌, length, refl, sym, ap, subst, arith}
 use Rattle.std.proofs.lemmas.List.{length-map}
 use Rattle.std.proofs.lemmas.List.Elements.{recursion_from_All}
 use Rattle.std.specs.Prelude.{All}
 use Rattle.pm_values.specs.Table.{Relation, IsRelation}
 use Rattle.pm_plan.specs.declared.plan.Plan.{Plan}
-use Rattle.pm_plan.specs.declared.gauge.Shown.{Shown}
 use Rattle.pm_plan.specs.Rows.{Db, pick}
-use Rattle.pm_plan.specs.Tree.{Tree, tree_of, total, nodes_of, IsNumbered}
-use Rattle.pm_plan.specs.Outputs.{output, whole_work, scanned_rows}
-use Rattle.pm_plan.specs.Events.{events, counts}
+use Rattle.pm_plan.specs.Tree.{tree_of, IsNumbered}
+use Rattle.pm_plan.specs.Outputs.{whole_work, scanned_rows}
 use Rattle.pm_plan.specs.Moments.{counts_at, gauges_at}
 use Rattle.pm_plan.specs.Fits.{Fits, below, tree_over, plan_over}
 use Rattle.pm_plan.proofs.EventLaws.{counts-moment}
-use Rattle.pm_cli.specs.Bounds.{work_of, lo_of, hi_of, bounds_of}
 use Rattle.pm_cli.specs.Estimates.{shown_at}
 use Rattle.pm_cli.specs.Sums.{SumsFit}
 

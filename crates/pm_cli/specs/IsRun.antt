@@ -1,6 +1,5 @@
 -- what is true of every run that writes
-use Rattle.std.specs.Prelude.{◌≡◌, ℕ, ◌+◌, ◌≤◌, length, All, IfSome, Option, min}
-use Rattle.pm_values.specs.Table.{IsRelation}
+use Rattle.std.specs.Prelude.{◌≡◌, ◌≤◌, length, IfSome}
 use Rattle.pm_plan.specs.Tree.{tree_of}
 use Rattle.pm_plan.specs.Outputs.{whole_work}
 use Rattle.pm_cli.specs.Pipelines.{pipes_of}

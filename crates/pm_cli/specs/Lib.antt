@@ -1,3 +1,10 @@
+pub mod Status
+pub mod Refusal
+pub mod Forms
+pub mod Reading
+pub mod Worked
+pub mod Verdict
+pub mod Stops
 pub mod Bounds
 pub mod Pipelines
 pub mod Estimates
@@ -12,3 +19,5 @@ pub mod Sums
 pub mod Text
 pub mod RunState
 pub mod IsRun
+pub mod Certified
+pub mod Answers

@@ -1,5 +1,5 @@
 -- the sums of a moment fit 128 bits
-use Rattle.std.specs.Prelude.{ℕ, ◌<◌, ◌^◌, List}
+use Rattle.std.specs.Prelude.{◌<◌, ◌^◌, List}
 use Rattle.pm_plan.specs.declared.gauge.Gauge.{Gauge}
 use Rattle.pm_plan.specs.Tree.{Tree}
 use Rattle.pm_cli.specs.Bounds.{bounds_of, work_of, lo_of, hi_of}

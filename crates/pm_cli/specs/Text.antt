@@ -1,7 +1,6 @@
 -- the text of a run: plan and header lines, then for each event its row and progress lines, and the end line
-use Rattle.std.specs.Prelude.{ℕ, zero, suc, ◌+◌, ◌%◌, ◌==◌, ◌||◌, Bool, true, false, if◌then◌else◌, List, [], ◌∷◌, ◌++◌, length, map, Option, None, Some}
+use Rattle.std.specs.Prelude.{ℕ, zero, suc, ◌%◌, ◌==◌, ◌||◌, Bool, false, if◌then◌else◌, List, [], ◌++◌, length, map, Option, None, Some}
 use Rattle.std.specs.List.{zip}
-use Rattle.pm_values.specs.declared.value.Value.{Value}
 use Rattle.pm_values.specs.declared.value.Kind.{Kind}
 use Rattle.pm_values.specs.ValueText.{value_text}
 use Rattle.pm_plan.specs.declared.plan.Plan.{Plan}

@@ -30,6 +30,9 @@ part_first old new xs ys (front, back, split, e) =
 -- the first piece was written, and then a first part of the second
 pub part_later : (old mid new : Option (List ℕ)) (xs ys : List ℕ) → mid ≡ gained old xs → GainsPart mid new ys
     → GainsPart old new (xs ++ ys)
-part_later old mid new xs ys e (front, back, split, f) =
-    (xs ++ front, back, ap (λ s. xs ++ s) split ∙ sym (append_assoc xs front back),
-     f ∙ ap (λ m. gained m front) e ∙ gained-gained old xs front)
+part_later old mid new xs ys e (front, back, split, f) = (
+  xs ++ front,
+  back,
+  ap (λ s. xs ++ s) split ∙ sym (append_assoc xs front back),
+  f ∙ ap (λ m. gained m front) e ∙ gained-gained old xs front,
+)

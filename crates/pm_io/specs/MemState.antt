@@ -1,5 +1,5 @@
 -- files in memory as contracts see them, and what each call answers
-use Rattle.std.specs.Prelude.{◌==◌, ℕ, ◌<◌, ◌≤◌, Bool, List, [], ◌∷◌, length, drop, min, slice_get, Option, Some, None, Result, Ok, Err, is_some, unwrap_or, if◌then◌else◌}
+use Rattle.std.specs.Prelude.{◌==◌, ℕ, ◌-◌, ◌^◌, ◌<◌, ◌≤◌, Bool, List, [], ◌∷◌, length, drop, min, slice_get, Option, Some, None, Result, Ok, Err, is_some, unwrap_or, if◌then◌else◌}
 use Rattle.std.specs.List.{list_any}
 use Rattle.std.specs.Option.{option_map}
 use Rattle.std.specs.Str.{bytes_eq}
@@ -8,6 +8,7 @@ use Rattle.pm_io.specs.declared.fault.IoFault.TheVariants.{Failed}
 use Rattle.pm_io.specs.declared.log.ReadLog.{ReadLog}
 use Rattle.pm_io.specs.declared.mem_file.MemFile.{MemFile}
 use Rattle.pm_io.specs.Counts.{counted}
+use Rattle.pm_io.specs.Log.{fresh, after_begin, after_read}
 
 pub record MemState : Type 0 where
   -- the newest first
@@ -21,6 +22,14 @@ pub record MemState : Type 0 where
   -- the bytes left of the file that was begun
   pub left : List ℕ
   pub log : ReadLog
+
+-- no files, and no call that fails
+abbrev pub no_files : MemState
+no_files = record { files = []; fails = []; most = 2 ^ 64 - 1; calls = 0; left = []; log = fresh }
+
+-- the state with a file of this name and these bytes
+abbrev pub with_file : MemState → List ℕ → List ℕ → MemState
+with_file s name bytes = record s { files = record { name = name; bytes = bytes } ∷ s.files }
 
 -- the bytes of the newest file of this name
 abbrev pub held_of : List MemFile → List ℕ → Option (List ℕ)
@@ -51,6 +60,24 @@ left_begun files name (Err fault) = []
 abbrev pub amount_of : Result ℕ IoFault → ℕ
 amount_of (Ok n) = n
 amount_of (Err fault) = 0
+
+-- after a begin of this name with this answer
+abbrev pub files_after_begin : MemState → List ℕ → Result Bool IoFault → MemState
+files_after_begin s name result =
+    record s {
+      calls = counted s.calls;
+      left = left_begun s.files name result;
+      log = after_begin s.log name result;
+    }
+
+-- after a read with this answer
+abbrev pub files_after_read : MemState → Result ℕ IoFault → MemState
+files_after_read s result =
+    record s {
+      calls = counted s.calls;
+      left = drop (amount_of result) s.left;
+      log = after_read s.log result;
+    }
 
 -- the bytes of the file at this place
 abbrev pub bytes_at : List MemFile → ℕ → List ℕ

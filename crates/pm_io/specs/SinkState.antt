@@ -1,5 +1,5 @@
 -- a sink in memory as contracts see it, and what each call answers
-use Rattle.std.specs.Prelude.{◌==◌, ℕ, ◌-◌, Bool, true, false, ◌||◌, List, ◌++◌, length, take, min, Result, Ok, Err, if◌then◌else◌}
+use Rattle.std.specs.Prelude.{◌==◌, ℕ, ◌-◌, ◌^◌, Bool, true, false, ◌||◌, List, [], ◌++◌, length, take, min, Result, Ok, Err, if◌then◌else◌}
 use Rattle.pm_io.specs.declared.fault.IoFault.{IoFault}
 use Rattle.pm_io.specs.declared.fault.IoFault.TheVariants.{Failed}
 use Rattle.pm_io.specs.Counts.{counted}
@@ -18,6 +18,20 @@ pub record SinkState : Type 0 where
   pub writes : ℕ
   pub finished : Bool
   pub faults : ℕ
+
+-- a sink with this room, to which nothing was written
+abbrev pub empty_sink : ℕ → SinkState
+empty_sink room =
+    record {
+      written = [];
+      room = room;
+      fails = [];
+      finish_fails = false;
+      most = 2 ^ 64 - 1;
+      writes = 0;
+      finished = false;
+      faults = 0;
+    }
 
 -- a write fails where its number was named or the room is used up, and else takes as many bytes as there are, but no
 -- more than there is room for or may be taken at once

@@ -36,7 +36,8 @@ pub trait Files {
         ensures stand { stand self.new ≡ stand_of result }
         ensures taken { taken self.new ≡ 0 }
 
-        ensures found { IfOk result (λ found. IfSome (held self.old) (λ held. found ≡ is_some (held name))) }
+        ensures found { IfOk result (λ found. IfSome (held self.old)
+            (λ held. found ≡ is_some (held name))) }
         ensures rest { LeftAtBegin (held self.old) name result (rest self.new) }
 
         ensures absent { result ≡ Ok false → Rose (absences self.old) (absences self.new) }
@@ -51,11 +52,14 @@ pub trait Files {
         ensures held { held self.new ≡ held self.old }
         ensures last { last self.new ≡ last self.old }
         ensures amount { IfOk result (λ n. n ≤ length buf.new) }
-        ensures taken { MatchResult result (λ n. taken self.new ≡ taken self.old + n) (λ _. taken self.new ≡ taken self.old) }
-        ensures stand { MatchResult result (λ _. stand self.new ≡ stand self.old) (λ _. stand self.new ≡ Stand.Broken) }
+        ensures taken { MatchResult result (λ n. taken self.new ≡ taken self.old + n)
+            (λ _. taken self.new ≡ taken self.old) }
+        ensures stand { MatchResult result (λ _. stand self.new ≡ stand self.old)
+            (λ _. stand self.new ≡ Stand.Broken) }
 
         ensures bytes { IfOk result (λ n. Takes (rest self.old) (rest self.new) (take n buf.new)) }
-        ensures end { IfOk result (λ n. IfSome (rest self.old) (λ left. 0 < length buf.new → (n ≡ 0) ↔ (left ≡ []))) }
+        ensures end { IfOk result (λ n. IfSome (rest self.old)
+            (λ left. 0 < length buf.new → (n ≡ 0) ↔ (left ≡ []))) }
         ensures kept { OnErr result (rest self.new ≡ rest self.old) }
 
         ensures failed { OnErr result (Rose (faults self.old) (faults self.new)) }

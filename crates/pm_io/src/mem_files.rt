@@ -1,4 +1,4 @@
-ghost use Rattle.std.specs.Prelude.{◌≡◌, ◌↔◌, ℕ, ◌+◌, ◌-◌, ◌^◌, ◌<◌, ◌≤◌, [], ◌∷◌, ◌++◌, length, take, drop, min, unwrap_or, is_some, Some, None, IfOk, OnOk, OnErr, MatchOption};
+ghost use Rattle.std.specs.Prelude.{◌≡◌, ◌↔◌, ℕ, ◌+◌, ◌-◌, ◌^◌, ◌<◌, ◌≤◌, [], ◌∷◌, ◌++◌, length, take, drop, min, unwrap_or, is_some, Some, None, IfOk, IfSome, IfNone, OnOk, OnErr};
 ghost use Rattle.pm_io.specs.MemState.{held_of, bytes_at};
 
 use crate::fault::IoFault;
@@ -44,12 +44,11 @@ impl Model for MemFiles {
 
 impl MemFiles {
     ghost use Rattle.pm_io.specs.Counts.{counted};
-    ghost use Rattle.pm_io.specs.Log.{fresh};
-    ghost use Rattle.pm_io.specs.MemState.{is_named, begin_answer, read_answer, left_begun, amount_of, held_of};
+    ghost use Rattle.pm_io.specs.MemState.{no_files, with_file, is_named, begin_answer, read_answer, left_begun, amount_of, held_of};
 
     /// No files, and no call that fails.
     pub fn new(alloc: Global) -> Self
-        ensures { result ≡ record { files = []; fails = []; most = 2 ^ 64 - 1; calls = 0; left = []; log = fresh } }
+        ensures { result ≡ no_files }
     {
         MemFiles {
             alloc,
@@ -65,7 +64,7 @@ impl MemFiles {
 
     /// Gives the file of this name these bytes from now on. A file that was begun is still read as it was.
     pub fn put(&mut self, name: &Txt, bytes: &[u8]) -> Result<(), AllocError>
-        ensures ok { OnOk result (self.new ≡ record self.old { files = record { name = name.now; bytes = bytes.now } ∷ self.old.files }) }
+        ensures ok { OnOk result (self.new ≡ with_file self.old name.now bytes.now) }
         ensures err { OnErr result (self.new ≡ self.old) }
     {
         let name = name.copy(self.alloc)?;
@@ -106,7 +105,10 @@ impl MemFiles {
     /// Begins a file, but for the log.
     fn try_begin(&mut self, name: &Txt) -> Result<bool, IoFault>
         ensures answer { result ≡ begin_answer self.old name.now }
-        ensures after { self.new ≡ record self.old { calls = counted self.old.calls; left = left_begun self.old.files name.now result } }
+        ensures after { self.new ≡ record self.old {
+          calls = counted self.old.calls;
+          left = left_begun self.old.files name.now result;
+        } }
     {
         if self.next_call_fails() {
             self.begun = None;
@@ -120,7 +122,10 @@ impl MemFiles {
     /// Reads from the begun file, but for the log.
     fn try_read(&mut self, buf: &mut [u8]) -> Result<usize, IoFault>
         ensures answer { result ≡ read_answer self.old (length buf.old) }
-        ensures after { self.new ≡ record self.old { calls = counted self.old.calls; left = drop (amount_of result) self.old.left } }
+        ensures after { self.new ≡ record self.old {
+          calls = counted self.old.calls;
+          left = drop (amount_of result) self.old.left;
+        } }
         ensures bytes { IfOk result (λ n. take n buf.new ≡ take n self.old.left) }
         ensures end { IfOk result (λ n. 0 < length buf.new → (n ≡ 0) ↔ (self.old.left ≡ [])) }
     {
@@ -147,7 +152,9 @@ impl MemFiles {
 
 /// The place of the newest file of this name.
 fn place_of(files: &[MemFile], name: &[u8]) -> Option<usize>
-    ensures { MatchOption result (held_of files.now name.now ≡ None) (λ place. (place < length files.now) × (held_of files.now name.now ≡ Some (bytes_at files.now place))) }
+    ensures none { IfNone result (held_of files.now name.now ≡ None) }
+    ensures within { IfSome result (λ place. place < length files.now) }
+    ensures found { IfSome result (λ place. held_of files.now name.now ≡ Some (bytes_at files.now place)) }
 {
     for (place, file) in files.iter().enumerate() {
         if file.name.bytes() == name {
@@ -168,9 +175,7 @@ fn copy_front(bytes: &[u8], most: usize, buf: &mut [u8]) -> usize
 }
 
 impl Files for MemFiles {
-    ghost use Rattle.pm_io.specs.Counts.{counted};
-    ghost use Rattle.pm_io.specs.Log.{after_begin, after_read};
-    ghost use Rattle.pm_io.specs.MemState.{begin_answer, read_answer, left_begun, amount_of, held_of};
+    ghost use Rattle.pm_io.specs.MemState.{begin_answer, read_answer, files_after_begin, files_after_read, held_of};
 
     ghost held = { λ m. Some (held_of m.files) };
 
@@ -188,7 +193,7 @@ impl Files for MemFiles {
 
     fn begin(&mut self, name: Txt) -> Result<bool, IoFault>
         ensures answer { result ≡ begin_answer self.old name }
-        ensures after { self.new ≡ record self.old { calls = counted self.old.calls; left = left_begun self.old.files name result; log = after_begin self.old.log name result } }
+        ensures after { self.new ≡ files_after_begin self.old name result }
         ensures faults { self.old.log.faults ≤ self.new.log.faults }
         ensures absences { self.old.log.absences ≤ self.new.log.absences }
     {
@@ -200,7 +205,7 @@ impl Files for MemFiles {
     fn read(&mut self, buf: &mut [u8]) -> Result<usize, IoFault>
         requires { self.old.log.taken + length buf.old ≤ 2 ^ 64 - 1 }
         ensures answer { result ≡ read_answer self.old (length buf.old) }
-        ensures after { self.new ≡ record self.old { calls = counted self.old.calls; left = drop (amount_of result) self.old.left; log = after_read self.old.log result } }
+        ensures after { self.new ≡ files_after_read self.old result }
         ensures faults { self.old.log.faults ≤ self.new.log.faults }
         ensures bytes { IfOk result (λ n. take n buf.new ≡ take n self.old.left) }
         ensures end { IfOk result (λ n. 0 < length buf.new → (n ≡ 0) ↔ (self.old.left ≡ [])) }

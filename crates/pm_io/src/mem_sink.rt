@@ -40,10 +40,11 @@ impl Model for MemSink {
 
 impl MemSink {
     ghost use Rattle.pm_io.specs.Counts.{counted};
+    ghost use Rattle.pm_io.specs.SinkState.{empty_sink};
 
     /// A sink with room for so many bytes, which it reserves.
     pub fn new(alloc: Global, room: u64) -> Result<Self, AllocError>
-        ensures { IfOk result (λ sink. sink ≡ record { written = []; room = room; fails = []; finish_fails = false; most = 2 ^ 64 - 1; writes = 0; finished = false; faults = 0 }) }
+        ensures { IfOk result (λ sink. sink ≡ empty_sink room) }
     {
         let room = room as usize;
         Ok(MemSink {

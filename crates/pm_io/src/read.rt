@@ -39,7 +39,7 @@ impl From<AllocError> for ReadOut {
 }
 
 /// The most bytes that one read asks for.
-const CHUNK: u64 = 4096;
+const CHUNK: usize = 4096;
 
 /// The bytes of a whole file, of which there are at most `limit`.
 ///
@@ -67,7 +67,8 @@ pub fn read_whole<F: Files>(
     ensures absent { result ≡ Err answer.Absent → Rose (F.absences files.old) (F.absences files.new) }
     ensures failed { result ≡ Err answer.Failed → Rose (F.faults files.old) (F.faults files.new) }
     ensures too_long { result ≡ Err answer.TooLong → F.taken files.new ≡ limit + 1 }
-    ensures only_too_long { F.taken files.new ≡ limit + 1 → (result ≡ Err answer.TooLong) ⊎ (result ≡ Err answer.Memory) }
+    ensures only_too_long { F.taken files.new ≡ limit + 1
+        → (result ≡ Err answer.TooLong) ⊎ (result ≡ Err answer.Memory) }
     ensures cause { IfErr result (λ out. IfSome (F.held files.old) (λ held. IsCause (held name) limit out)) }
 {
     if files.begin(name)? {
@@ -96,13 +97,14 @@ fn read_on<F: Files>(alloc: Global, files: &mut F, limit: u64) -> Result<Vec<u8>
     ensures present { result ≢ Err answer.Absent }
     ensures failed { result ≡ Err answer.Failed → Rose (F.faults files.old) (F.faults files.new) }
     ensures too_long { result ≡ Err answer.TooLong → F.taken files.new ≡ limit + 1 }
-    ensures only_too_long { F.taken files.new ≡ limit + 1 → (result ≡ Err answer.TooLong) ⊎ (result ≡ Err answer.Memory) }
+    ensures only_too_long { F.taken files.new ≡ limit + 1
+        → (result ≡ Err answer.TooLong) ⊎ (result ≡ Err answer.Memory) }
     ensures longer { result ≡ Err answer.TooLong → IfSome (F.rest files.old) (λ left. limit < length left) }
 {
     let mut bytes = Vec::new(alloc);
-    let mut chunk = [0; 4096];
+    let mut chunk = [0; CHUNK];
     while bytes.len() as u64 <= limit {
-        let room = CHUNK.min(limit + 1 - bytes.len() as u64) as usize;
+        let room = CHUNK.min(limit as usize + 1 - bytes.len());
         let n = files.read(&mut chunk[..room])?;
         if n == 0 {
             return Ok(bytes);

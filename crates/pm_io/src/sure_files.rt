@@ -25,11 +25,11 @@ impl Model for SureFiles {
 }
 
 impl SureFiles {
-    ghost use Rattle.pm_io.specs.Log.{fresh};
+    ghost use Rattle.pm_io.specs.MemState.{no_files, with_file};
 
     /// No files.
     pub fn new(alloc: Global) -> Self
-        ensures { result ≡ record { files = []; fails = []; most = 2 ^ 64 - 1; calls = 0; left = []; log = fresh } }
+        ensures { result ≡ no_files }
     {
         SureFiles {
             files: MemFiles::new(alloc),
@@ -38,7 +38,7 @@ impl SureFiles {
 
     /// Gives the file of this name these bytes from now on. A file that was begun is still read as it was.
     pub fn put(&mut self, name: &Txt, bytes: &[u8]) -> Result<(), AllocError>
-        ensures ok { OnOk result (self.new ≡ record self.old { files = record { name = name.now; bytes = bytes.now } ∷ self.old.files }) }
+        ensures ok { OnOk result (self.new ≡ with_file self.old name.now bytes.now) }
         ensures err { OnErr result (self.new ≡ self.old) }
     {
         self.files.put(name, bytes)
@@ -46,9 +46,7 @@ impl SureFiles {
 }
 
 impl Files for SureFiles {
-    ghost use Rattle.pm_io.specs.Counts.{counted};
-    ghost use Rattle.pm_io.specs.Log.{after_begin, after_read};
-    ghost use Rattle.pm_io.specs.MemState.{left_begun, amount_of, held_of};
+    ghost use Rattle.pm_io.specs.MemState.{files_after_begin, files_after_read, held_of};
 
     ghost held = { λ s. Some (held_of s.files) };
 
@@ -66,7 +64,7 @@ impl Files for SureFiles {
 
     fn begin(&mut self, name: Txt) -> Result<bool, IoFault>
         ensures answer { result ≡ Ok (is_some (held_of self.old.files name)) }
-        ensures after { self.new ≡ record self.old { calls = counted self.old.calls; left = left_begun self.old.files name result; log = after_begin self.old.log name result } }
+        ensures after { self.new ≡ files_after_begin self.old name result }
         ensures absences { self.old.log.absences ≤ self.new.log.absences }
     {
         self.files.begin(name)
@@ -75,7 +73,7 @@ impl Files for SureFiles {
     fn read(&mut self, buf: &mut [u8]) -> Result<usize, IoFault>
         requires { self.old.log.taken + length buf.old ≤ 2 ^ 64 - 1 }
         ensures answer { result ≡ Ok (min (length buf.old) (min self.old.most (length self.old.left))) }
-        ensures after { self.new ≡ record self.old { calls = counted self.old.calls; left = drop (amount_of result) self.old.left; log = after_read self.old.log result } }
+        ensures after { self.new ≡ files_after_read self.old result }
         ensures bytes { IfOk result (λ n. take n buf.new ≡ take n self.old.left) }
         ensures end { IfOk result (λ n. 0 < length buf.new → (n ≡ 0) ↔ (self.old.left ≡ [])) }
     {

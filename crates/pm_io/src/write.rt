@@ -19,7 +19,8 @@ impl From<IoFault> for WriteFault {
 /// no memory.
 pub fn write_whole<S: Sink>(sink: &mut S, piece: &[u8]) -> Result<(), WriteFault>
     ensures whole { OnOk result (S.written sink.new ≡ gained (S.written sink.old) piece.now) }
-    ensures unfinished { OnOk result (0 < length piece.now → IfSome (S.finished sink.new) (λ done. done ≡ false)) }
+    ensures unfinished { OnOk result (0 < length piece.now
+        → IfSome (S.finished sink.new) (λ done. done ≡ false)) }
 
     ensures part { OnErr result (GainsPart (S.written sink.old) (S.written sink.new) piece.now) }
     ensures failed { OnErr result (Rose (S.faults sink.old) (S.faults sink.new)) }

@@ -1,22 +1,17 @@
 -- A token or a gap ends between two characters, and is not empty.
-use Rattle.std.proofs.Common.{◌≡◌, ◌<◌, ◌≤◌, ◌+◌, ◌-◌, ℕ, suc, zero, Bool, true, false, List, [], ◌∷◌, length, drop, take, get_or, Option, Some, None, Result, Ok, Err, refl, sym, ◌∙◌, ap, arith, cond, inl, inr, ◌⊎◌, if◌then◌else◌, ◌==◌, ◌&&◌, ◌||◌, nat_lt, nat_le, codes, nat_eq, IsUtf8, length-take, length-drop, rules, get_or-drop, lit<}
+use Rattle.std.proofs.Common.{◌≡◌, ◌<◌, ◌≤◌, ◌+◌, ◌-◌, ℕ, suc, zero, Bool, true, false, List, [], ◌∷◌, length, drop, take, get_or, Option, Some, None, refl, ◌∙◌, arith, cond, inl, inr, ◌⊎◌, if◌then◌else◌, ◌==◌, ◌&&◌, ◌||◌, nat_lt, nat_le, codes, nat_eq, IsUtf8, length-take, length-drop, rules, get_or-drop, lit<}
 use Rattle.std.specs.List.{prefix_len, starts_with, position, find, list_all}
-use Rattle.std.specs.Str.{IsCharBoundary, bytes_eq}
-use Rattle.std.specs.Char.{is_ascii_digit, is_ascii_control, is_ascii_alphabetic}
+use Rattle.std.specs.Str.{bytes_eq}
+use Rattle.std.specs.Char.{is_ascii_digit, is_ascii_control}
 use Rattle.std.specs.Option.{is_some}
 use Rattle.std.proofs.lemmas.Str.{IsCharBoundary-after_ascii, IsCharBoundary-before_ascii, IsCharBoundary-end}
 use Rattle.std.proofs.lemmas.Bool.Decides.{nat_tests}
 use Rattle.std.proofs.lemmas.List.{get_or-take}
 use Rattle.std.proofs.lemmas.Slice.Eq.{bytes_eq-Decides}
 use Rattle.std.proofs.lemmas.Bool.{eqb-true, eqb-false}
-use Rattle.pm_lexer.specs.declared.token.TokenKind.{TokenKind}
 use Rattle.pm_lexer.specs.declared.token.TokenKind.TheVariants as kind
-use Rattle.pm_lexer.specs.declared.fault.LexBad.{LexBad}
-use Rattle.pm_lexer.specs.declared.fault.LexBad.TheVariants as bad
-use Rattle.pm_lexer.specs.declared.head.Head.{Head}
-use Rattle.pm_lexer.specs.declared.head.Head.TheVariants as head
 use Rattle.pm_lexer.specs.Byte.{is_blank, is_letter, is_word, is_inline}
-use Rattle.pm_lexer.specs.Pieces.{whole_len, decimals, decimals_len, number_len, longer, quotation, single_quotes}
+use Rattle.pm_lexer.specs.Pieces.{whole_len, decimals, decimals_len, longer, quotation, single_quotes}
 use Rattle.pm_lexer.specs.declared.symbol.Symbol.{Symbol}
 use Rattle.pm_lexer.specs.declared.symbol.TheConstants.{SIGNS}
 use Rattle.pm_lexer.specs.Symbol.{spelling, reserved_word, canonical_sign, sign_of}

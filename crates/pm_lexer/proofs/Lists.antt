@@ -1,11 +1,10 @@
 -- Readers of lists, and of choices by the first token.
-use Rattle.std.proofs.Common.{◌≡◌, ◌≤◌, ◌<◌, ◌+◌, ◌⊎◌, ℕ, zero, suc, Bool, true, false, List, [], ◌∷◌, ◌++◌, drop, length, Result, Ok, Err, refl, sym, ◌∙◌, ap, inl, inr, arith, append_assoc, length-append, nat_le, if◌then◌else◌}
-use Rattle.std.proofs.lemmas.Bool.Decides.{nat_tests}
+use Rattle.std.proofs.Common.{◌≡◌, ◌≤◌, ◌<◌, ◌+◌, ℕ, zero, suc, List, [], ◌∷◌, ◌++◌, length, Ok, Err, refl, inl, inr, arith, append_assoc}
 use Rattle.pm_lexer.specs.declared.token.Token.{Token}
-use Rattle.pm_lexer.specs.Language.{Lang, Gate, Is, Within, IsMore, IsFurther, IsList}
-use Rattle.pm_lexer.specs.Reading.{Stop, expected, too_deep, too_many, Read, ◌>>=◌, place_of, sees, token_at, entry_at, more_at, list_at}
-use Rattle.pm_lexer.proofs.Phrases.{Phrase, Next, Avoids, Heads, heads_under, Took, Able, Began, GoesOn, Cause, no_phrase, deeper, longer, Where, Goes, Fault, Taken, Faulted, Law, Reader, Nothing, NotOther, Open, open_behind, weaker_began, moved, fault_moved}
-use Rattle.pm_lexer.proofs.Readers.{Then, Clear, Or, Same, same_law, first_law, second_law, first_began, then_law, then_began, then_reader, token_law, token_reader, one_token, token_able, not_seen, pure_reader, first_fault}
+use Rattle.pm_lexer.specs.Language.{Gate, Within, IsMore, IsFurther}
+use Rattle.pm_lexer.specs.Reading.{Stop, too_many, Read, ◌>>=◌, place_of}
+use Rattle.pm_lexer.proofs.Phrases.{Phrase, Next, Avoids, Heads, heads_under, Took, Able, Began, GoesOn, longer, Fault, Taken, Law, Open, open_behind, weaker_began, moved, fault_moved}
+use Rattle.pm_lexer.proofs.Readers.{Clear, Or, Same}
 
 -- A phrase, and then one of several languages, which is chosen before the phrase.
 abbrev pub Some : {A B I : Type 0} → (I → A → Phrase B) → A → Phrase B

@@ -1,8 +1,8 @@
 -- What tokens are to a language: a phrase, the beginning of one, or where none goes on.
-use Rattle.std.proofs.Common.{◌≡◌, ◌≤◌, ◌+◌, ◌⊎◌, ℕ, Bool, true, false, List, [], ◌∷◌, ◌++◌, length, Result, Ok, Err, refl, sym, ◌∙◌, ap, inl, inr, arith, append_assoc, length-append}
+use Rattle.std.proofs.Common.{◌≡◌, ◌≤◌, ℕ, List, [], ◌∷◌, ◌++◌, length, Ok, Err, refl, arith, length-append}
 use Rattle.pm_lexer.specs.declared.token.Token.{Token}
 use Rattle.pm_lexer.specs.Language.{Lang, Gate}
-use Rattle.pm_lexer.specs.Reading.{Stop, expected, too_deep, too_many, Read, place_of, sees}
+use Rattle.pm_lexer.specs.Reading.{Stop, expected, too_deep, too_many, Read, place_of}
 
 -- A language within limits: at most so deep, and with an entry past its limit only where the gate is open.
 abbrev pub Phrase : Type 0 → Type 1

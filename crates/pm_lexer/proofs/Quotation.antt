@@ -1,5 +1,5 @@
 -- One step of a walk over what stands between quotes.
-use Rattle.std.proofs.Common.{◌≡◌, ◌<◌, ◌≤◌, ◌+◌, ◌-◌, ℕ, suc, zero, Bool, true, false, List, [], ◌∷◌, length, drop, take, get_or, Option, Some, None, refl, sym, ◌∙◌, ap, arith, add-one, drop-cons, if◌then◌else◌, eq-eqb, eqb, ◌==◌, ◌&&◌, ◌⊎◌, inl, inr, rules, add_assoc, zero-add}
+use Rattle.std.proofs.Common.{◌≡◌, ◌<◌, ◌+◌, ℕ, true, false, List, [], ◌∷◌, length, drop, get_or, Option, Some, None, refl, sym, ◌∙◌, ap, arith, add-one, drop-cons, eq-eqb, ◌==◌, ◌⊎◌, inl, inr, rules, add_assoc, zero-add}
 use Rattle.std.proofs.lemmas.Bool.{ne_eqb}
 use Rattle.std.proofs.Math.Seq.{drop-length}
 use Rattle.pm_lexer.specs.Pieces.{longer, quotation, single_quotes}

@@ -1,9 +1,8 @@
 -- One step of the walk from token to token.
-use Rattle.std.proofs.Common.{◌≡◌, ◌<◌, ◌≤◌, ◌+◌, ◌-◌, ℕ, suc, zero, List, [], ◌∷◌, ◌++◌, length, drop, take, Result, Ok, Err, refl, sym, ◌∙◌, ap, arith, append_assoc, All}
+use Rattle.std.proofs.Common.{◌≡◌, ◌<◌, ◌≤◌, ◌+◌, ◌-◌, ℕ, suc, zero, List, [], ◌∷◌, ◌++◌, length, drop, take, Result, Ok, Err, refl, sym, ap, arith, append_assoc}
 use Rattle.pm_lexer.specs.declared.token.Token.{Token}
 use Rattle.pm_lexer.specs.declared.token.TokenKind.{TokenKind}
 use Rattle.pm_lexer.specs.declared.fault.LexBad.{LexBad}
-use Rattle.pm_lexer.specs.declared.head.Head.{Head}
 use Rattle.pm_lexer.specs.declared.head.Head.TheVariants as head
 use Rattle.pm_lexer.specs.Head.{head_of}
 use Rattle.pm_lexer.specs.Tokens.{before, all_before, end_token, tokens_behind}

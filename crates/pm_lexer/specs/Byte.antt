@@ -1,6 +1,6 @@
 -- The classes of bytes that tokens are made of.
-use Rattle.std.specs.Prelude.{ℕ, Bool, true, false, ◌==◌, ◌||◌, ◌&&◌, nat_lt, not}
-use Rattle.std.specs.Char.{is_ascii_alphabetic, is_ascii_digit, is_ascii_control}
+use Rattle.std.specs.Prelude.{ℕ, Bool, ◌==◌, ◌||◌, not}
+use Rattle.std.specs.Char.{is_ascii_alphabetic, is_ascii_digit}
 
 -- space, tab, CR or LF
 abbrev pub is_blank : ℕ → Bool

@@ -1,5 +1,5 @@
 -- What a reader answers, token by token.
-use Rattle.std.specs.Prelude.{◌≡◌, ℕ, zero, suc, Bool, true, false, if◌then◌else◌, List, [], ◌∷◌, ◌++◌, Result, Ok, Err, length, drop, nat_le}
+use Rattle.std.specs.Prelude.{ℕ, zero, suc, Bool, false, if◌then◌else◌, List, [], ◌∷◌, ◌++◌, Result, Ok, Err, length, nat_le}
 use Rattle.pm_lexer.specs.declared.token.Token.{Token}
 
 -- why reading stops, and at which place: no phrase begins like this, or only a deeper one, or only one with a longer list

@@ -1,10 +1,8 @@
 -- The tokens of a text.
-use Rattle.std.specs.Prelude.{ℕ, zero, suc, ◌≡◌, ◌≤◌, ◌-◌, ◌+◌, List, [], ◌∷◌, ◌++◌, Result, Ok, Err, take, length, All}
+use Rattle.std.specs.Prelude.{ℕ, zero, suc, ◌≡◌, ◌≤◌, ◌-◌, List, [], ◌∷◌, ◌++◌, Result, Ok, Err, take, length}
 use Rattle.pm_lexer.specs.declared.token.Token.{Token}
 use Rattle.pm_lexer.specs.declared.token.TokenKind.TheVariants as kind
 use Rattle.pm_lexer.specs.declared.fault.LexBad.{LexBad}
-use Rattle.pm_lexer.specs.declared.fault.LexBad.TheVariants as bad
-use Rattle.pm_lexer.specs.declared.head.Head.{Head}
 use Rattle.pm_lexer.specs.declared.head.Head.TheVariants as head
 use Rattle.pm_lexer.specs.Head.{head_of}
 

@@ -7,6 +7,8 @@ pub mod fault;
 pub mod head;
 pub mod lexing;
 pub mod symbol;
+#[cfg(test)]
+mod tests;
 pub mod token;
 pub mod unquote;
 

@@ -1,3 +1,4 @@
 pub mod EventLists
 pub mod EventLaws
 pub mod Widths
+pub mod Answers

@@ -1,9 +1,9 @@
 -- The cases of the reading of a part.
-use Rattle.std.proofs.Common.{◌≡◌, ◌<◌, ◌+◌, ◌-◌, ℕ, zero, suc, Bool, true, false, List, [], ◌∷◌, drop, Ok, Err, Result, refl, sym, ◌∙◌, arith, sub-one, if◌then◌else◌, ◌||◌}
+use Rattle.std.proofs.Common.{◌≡◌, ◌<◌, ◌-◌, ℕ, zero, suc, Bool, true, false, List, [], ◌∷◌, drop, Ok, Err, refl, arith, sub-one, ◌||◌}
 use Rattle.pm_lexer.specs.declared.token.Token.{Token}
 use Rattle.pm_lexer.specs.declared.symbol.Symbol.TheVariants as symbol
 use Rattle.pm_lexer.specs.Symbol.{is}
-use Rattle.pm_lexer.specs.Reading.{Stop, too_deep, Read, ◌>>=◌, place_of, sees, token_at}
+use Rattle.pm_lexer.specs.Reading.{too_deep, ◌>>=◌, place_of, sees, token_at}
 use Rattle.pm_syntax.specs.declared.tree.Test.TheVariants as test
 use Rattle.pm_syntax.specs.Reading.{part_at, part_peek, cond_at, test_at, opens, begins_test}
 
@@ -21,7 +21,7 @@ unfolding part_peek
 peek_test zero ts s = rw s refl
 peek_test (suc d) ts s = rw s refl
 
-no_not : (ts : List Token) → sees opens ts ≡ false → sees (is symbol.Not) ts ≡ false
+pub no_not : (ts : List Token) → sees opens ts ≡ false → sees (is symbol.Not) ts ≡ false
 no_not [] s = refl
 no_not (t ∷ ts) s = first (is symbol.Not t) (is symbol.Open t) s
   where
@@ -29,7 +29,7 @@ no_not (t ∷ ts) s = first (is symbol.Not t) (is symbol.Open t) s
     first true b e = e
     first false b e = refl
 
-no_open : (ts : List Token) → sees opens ts ≡ false → sees (is symbol.Open) ts ≡ false
+pub no_open : (ts : List Token) → sees opens ts ≡ false → sees (is symbol.Open) ts ≡ false
 no_open [] s = refl
 no_open (t ∷ ts) s = second (is symbol.Not t) (is symbol.Open t) s
   where

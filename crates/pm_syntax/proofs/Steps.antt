@@ -1,7 +1,7 @@
 -- One turn of the reading of a list.
-use Rattle.std.proofs.Common.{◌≡◌, ◌<◌, ◌+◌, ◌-◌, ℕ, zero, suc, Bool, true, false, List, [], ◌∷◌, ◌++◌, drop, length, Ok, Err, Result, refl, sym, ◌∙◌, ap, arith, nat_le, if◌then◌else◌}
+use Rattle.std.proofs.Common.{◌≡◌, ◌+◌, ℕ, zero, suc, Bool, true, false, List, [], ◌∷◌, ◌++◌, drop, length, Ok, refl, arith, nat_le}
 use Rattle.pm_lexer.specs.declared.token.Token.{Token}
-use Rattle.pm_lexer.specs.Reading.{Stop, expected, too_deep, too_many, Read, ◌>>=◌, place_of, sees, token_at, entry_at, more_at, list_at}
+use Rattle.pm_lexer.specs.Reading.{Read, ◌>>=◌, sees, token_at, entry_at, more_at, list_at}
 use Rattle.pm_syntax.specs.declared.fault.SynBad.{SynBad}
 use Rattle.pm_syntax.specs.declared.fault.SynBad.TheVariants as bad
 use Rattle.pm_lexer.specs.declared.symbol.Symbol.TheVariants as symbol

@@ -1,16 +1,17 @@
 -- Readers of single tokens, and what two symbols say of one token.
-use Rattle.std.proofs.Common.{◌≡◌, ◌⊎◌, ℕ, Bool, true, false, List, [], ◌∷◌, ◌++◌, drop, Result, Ok, Err, Option, Some, None, refl, sym, ◌∙◌, ap, inl, inr, rules, arith, if◌then◌else◌, ◌||◌, codes}
-use denote.Enum.Bare.{same_true, same_false}
+use Rattle.std.proofs.Common.{◌≡◌, ℕ, true, false, List, [], ◌∷◌, refl, sym, rules, codes}
+use denote.Enum.Bare.{same_true}
 use Rattle.pm_lexer.specs.contracts.symbol.Symbol.{the_type}
 use Rattle.pm_lexer.specs.declared.token.Token.{Token}
 use Rattle.pm_lexer.specs.declared.token.TokenKind.TheVariants as kind
 use Rattle.pm_lexer.specs.declared.symbol.Symbol.{Symbol}
 use Rattle.pm_lexer.specs.declared.symbol.Symbol.TheVariants as symbol
 use Rattle.pm_lexer.specs.Symbol.{symbol_of, same_symbol, is, spelling, reserved_word, canonical_sign}
-use Rattle.pm_lexer.specs.Language.{Lang, Gate, Is}
+use Rattle.pm_syntax.specs.Terminals.{compares}
+use Rattle.pm_lexer.specs.Language.{Is}
 use Rattle.pm_lexer.specs.Reading.{Read, ◌>>=◌, sees, token_at}
-use Rattle.pm_lexer.proofs.Phrases.{Phrase, Next, Avoids, Heads, Reader, Nothing, NotOther, Able}
-use Rattle.pm_lexer.proofs.Readers.{Then, token_reader, not_seen, token_able}
+use Rattle.pm_lexer.proofs.Phrases.{Phrase, Next, Heads, Reader}
+use Rattle.pm_lexer.proofs.Readers.{Then, token_reader}
 
 -- a token is its symbol
 pub is_symbol : (s : Symbol) (t : Token) → is s t ≡ true → symbol_of t ≡ s
@@ -177,6 +178,10 @@ stands_text = refl
 pub stands_end : Stands symbol.End
 unfolding same_symbol symbol_of reserved_word canonical_sign sample
 stands_end = refl
+
+pub equal_compares : compares (sample symbol.Equal) ≡ true
+unfolding same_symbol symbol_of canonical_sign sample
+equal_compares = refl
 
 -- a reader of a symbol, and then another
 pub symbol_reader : {B : Type 0} (S : Token → Type 0) (s : Symbol) → Stands s → (Q : Token → Phrase B) (d : ℕ) (q : Token × List Token → Read B) → ((t : Token) → Reader S (Q t) d (λ r. q (t, r)))

@@ -1,7 +1,7 @@
 -- The grammar of SELECT: one definition for each production. `Is (is X)` is the token X, `⊎` stands between alternatives, and what
 -- follows a phrase is given its tree. `d` bounds the open parentheses and NOTs, and the gate says where an entry past the limit of
 -- its list may begin. `grouped` says that expressions may be aggregates.
-use Rattle.std.specs.Prelude.{◌≡◌, ◌⊎◌, ℕ, zero, suc, ℤ, pos, Bool, true, false, List, [], ◌∷◌, ◌++◌, Option, Some, None, is_some, length, if◌then◌else◌, ◌≤◌, unwrap_or, not}
+use Rattle.std.specs.Prelude.{◌⊎◌, ℕ, zero, suc, pos, Bool, true, false, List, [], ◌∷◌, Option, Some, None, is_some, unwrap_or}
 use Rattle.std.specs.Prelude.{neg_ℤ}
 use Rattle.pm_lexer.specs.declared.token.Token.{Token}
 use Rattle.pm_lexer.specs.declared.symbol.Symbol.TheVariants as symbol

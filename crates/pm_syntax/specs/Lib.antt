@@ -1,3 +1,4 @@
 pub mod Grammar
 pub mod Terminals
 pub mod Reading
+pub mod Statement

@@ -1,10 +1,10 @@
 -- What reading a statement answers, token by token.
-use Rattle.std.specs.Prelude.{◌≡◌, ℕ, zero, suc, pos, neg_ℤ, Bool, true, false, if◌then◌else◌, ◌&&◌, ◌||◌, List, [], ◌∷◌, ◌++◌, Option, Some, None, Result, Ok, Err, length, drop, is_some, unwrap_or, nat_le}
+use Rattle.std.specs.Prelude.{◌≡◌, ℕ, zero, suc, pos, neg_ℤ, Bool, true, false, if◌then◌else◌, ◌&&◌, ◌||◌, List, [], ◌∷◌, Option, Some, None, Result, Ok, Err, length, drop, is_some, unwrap_or}
 use Rattle.pm_lexer.specs.declared.token.Token.{Token}
 use Rattle.pm_lexer.specs.declared.symbol.Symbol.TheVariants as symbol
 use Rattle.pm_lexer.specs.Symbol.{is}
 use Rattle.pm_lexer.specs.Pieces.{content_of, decimals_len}
-use Rattle.pm_lexer.specs.Reading.{Stop, expected, too_deep, too_many, Read, ◌>>=◌, place_of, sees, token_at, entry_at, more_at, list_at}
+use Rattle.pm_lexer.specs.Reading.{Stop, expected, too_deep, too_many, Read, ◌>>=◌, place_of, sees, token_at, more_at, list_at}
 use Rattle.pm_syntax.specs.declared.fault.SynBad.{SynBad}
 use Rattle.pm_syntax.specs.declared.fault.SynBad.TheVariants as bad
 use Rattle.pm_syntax.specs.declared.tree.PlacedName.{PlacedName}

@@ -41,14 +41,27 @@ fn comparison_sign(tokens: &[Token]) -> Result<(&Token, &[Token]), SynBad>
 
 // compare operand, behind the left one
 #[tactic(auto, unfolding(crate::specs::Reading::compare_behind))]
-fn compare_behind(alloc: Global, grouped: bool, left: Atom, tokens: &[Token]) -> Result<(Test, &[Token]), SynBad>
+fn compare_behind(
+    alloc: Global,
+    grouped: bool,
+    left: Atom,
+    tokens: &[Token],
+) -> Result<(Test, &[Token]), SynBad>
     ensures { Gives (λ x. (x.0, x.1.now)) result (compare_behind grouped left tokens.now) }
 {
     let (sign, rest) = comparison_sign(tokens)?;
     let how = comparison(sign).unwrap_or(Comparison::Equal);
     let at = sign.at;
     let (right, rest) = operand(alloc, grouped, rest)?;
-    Ok((Test::Compare { how, left, right, at }, rest))
+    Ok((
+        Test::Compare {
+            how,
+            left,
+            right,
+            at,
+        },
+        rest,
+    ))
 }
 
 // [ NOT ] NULL, behind IS
@@ -82,7 +95,13 @@ fn test_place(negation: Option<&Token>, word: &Token) -> u64
 
 // "(" literal { "," literal } ")", behind IN
 #[tactic(auto, unfolding(crate::specs::Reading::in_behind))]
-fn in_behind<'a>(alloc: Global, of: Atom, negation: Option<&Token>, word: &Token, tokens: &'a [Token]) -> Result<(Test, &'a [Token]), SynBad>
+fn in_behind<'a>(
+    alloc: Global,
+    of: Atom,
+    negation: Option<&Token>,
+    word: &Token,
+    tokens: &'a [Token],
+) -> Result<(Test, &'a [Token]), SynBad>
     ensures { Gives (λ x. (x.0, x.1.now)) result (in_behind of (option_copied negation.entry) word.now tokens.now) }
 {
     let negated = negation.is_some();
@@ -90,7 +109,15 @@ fn in_behind<'a>(alloc: Global, of: Atom, negation: Option<&Token>, word: &Token
     let (_, rest) = token(Symbol::Open, tokens)?;
     let (list, rest) = literals(alloc, rest)?;
     let (_, rest) = token(Symbol::Close, rest)?;
-    Ok((Test::OneOf { of, list, negated, at }, rest))
+    Ok((
+        Test::OneOf {
+            of,
+            list,
+            negated,
+            at,
+        },
+        rest,
+    ))
 }
 
 // operand AND operand, behind BETWEEN
@@ -110,12 +137,27 @@ fn between_behind<'a>(
     let (low, rest) = operand(alloc, grouped, tokens)?;
     let (_, rest) = token(Symbol::And, rest)?;
     let (high, rest) = operand(alloc, grouped, rest)?;
-    Ok((Test::Between { of, low, high, negated, at }, rest))
+    Ok((
+        Test::Between {
+            of,
+            low,
+            high,
+            negated,
+            at,
+        },
+        rest,
+    ))
 }
 
 // IN or BETWEEN, behind an operand and its NOT
 #[tactic(auto, unfolding(crate::specs::Reading::range_behind))]
-fn range_behind<'a>(alloc: Global, grouped: bool, of: Atom, negation: Option<&Token>, tokens: &'a [Token]) -> Result<(Test, &'a [Token]), SynBad>
+fn range_behind<'a>(
+    alloc: Global,
+    grouped: bool,
+    of: Atom,
+    negation: Option<&Token>,
+    tokens: &'a [Token],
+) -> Result<(Test, &'a [Token]), SynBad>
     ensures { Gives (λ x. (x.0, x.1.now)) result (range_behind grouped of (option_copied negation.entry) tokens.now) }
 {
     if sees(Symbol::In, tokens) {
@@ -128,7 +170,12 @@ fn range_behind<'a>(alloc: Global, grouped: bool, of: Atom, negation: Option<&To
 
 // What stands behind the first operand of a test.
 #[tactic(auto, unfolding(crate::specs::Reading::test_behind))]
-fn test_behind(alloc: Global, grouped: bool, of: Atom, tokens: &[Token]) -> Result<(Test, &[Token]), SynBad>
+fn test_behind(
+    alloc: Global,
+    grouped: bool,
+    of: Atom,
+    tokens: &[Token],
+) -> Result<(Test, &[Token]), SynBad>
     ensures { Gives (λ x. (x.0, x.1.now)) result (test_behind grouped of tokens.now) }
 {
     if compares(tokens) {
@@ -183,20 +230,22 @@ fn opens(tokens: &[Token]) -> bool
 fn peek(depth: u32, tokens: &[Token]) -> Result<(&Token, &[Token]), SynBad>
     ensures { Gives (λ x. (x.0.now, x.1.now)) result (part_peek depth tokens.now) }
 {
-    if opens(tokens) {
-        if depth == 0 {
-            return Err(SynBad::TooDeep(place(tokens)));
-        }
+    if !opens(tokens) {
+        return test_begins(tokens);
+    }
+    if depth != 0 {
         return opening(tokens);
     }
-    test_begins(tokens)
+    Err(SynBad::TooDeep(place(tokens)))
 }
 
 fn opening(tokens: &[Token]) -> Result<(&Token, &[Token]), SynBad>
     ensures { Gives (λ x. (x.0.now, x.1.now)) result (token_at opens tokens.now) }
 {
     match tokens {
-        [token, rest @ ..] if is(Symbol::Not, token) || is(Symbol::Open, token) => Ok((token, rest)),
+        [token, rest @ ..] if is(Symbol::Not, token) || is(Symbol::Open, token) => Ok((
+            token, rest,
+        )),
         _ => Err(SynBad::Expected(place(tokens))),
     }
 }
@@ -213,7 +262,12 @@ fn test_begins(tokens: &[Token]) -> Result<(&Token, &[Token]), SynBad>
 // part = NOT part | "(" cond ")" | test
 #[tactic(auto, using(crate::proofs::Parts::part_is_deep, crate::proofs::Parts::part_is_not, crate::proofs::Parts::part_is_cond, crate::proofs::Parts::part_is_test))]
 #[cycle(cond)]
-fn part(alloc: Global, grouped: bool, depth: u32, tokens: &[Token]) -> Result<(Test, &[Token]), SynBad>
+fn part(
+    alloc: Global,
+    grouped: bool,
+    depth: u32,
+    tokens: &[Token],
+) -> Result<(Test, &[Token]), SynBad>
     ensures { Gives (λ x. (x.0, x.1.now)) result (part_at grouped depth tokens.now) }
 {
     if !opens(tokens) {
@@ -235,7 +289,13 @@ fn part(alloc: Global, grouped: bool, depth: u32, tokens: &[Token]) -> Result<(T
 
 // A member of an AND list, or why there is none past the limit.
 #[cycle(cond)]
-fn and_member(alloc: Global, grouped: bool, depth: u32, past: bool, tokens: &[Token]) -> Result<(Test, &[Token]), SynBad>
+fn and_member(
+    alloc: Global,
+    grouped: bool,
+    depth: u32,
+    past: bool,
+    tokens: &[Token],
+) -> Result<(Test, &[Token]), SynBad>
     ensures { Gives (λ x. (x.0, x.1.now)) result (entry_at past (part_peek depth) (part_at grouped depth) tokens.now) }
 {
     if past {
@@ -248,7 +308,12 @@ fn and_member(alloc: Global, grouped: bool, depth: u32, past: bool, tokens: &[To
 // part-and = part { AND part }
 #[tactic(auto, unfolding(pm_lexer::specs::Reading::list_at, crate::specs::Reading::ands_at))]
 #[cycle(cond)]
-fn part_and(alloc: Global, grouped: bool, depth: u32, tokens: &[Token]) -> Result<(Test, &[Token]), SynBad>
+fn part_and(
+    alloc: Global,
+    grouped: bool,
+    depth: u32,
+    tokens: &[Token],
+) -> Result<(Test, &[Token]), SynBad>
     ensures { Gives (λ x. (x.0, x.1.now)) result (ands_at (part_peek depth) (part_at grouped depth) tokens.now) }
 {
     let mut members = Tests::new(alloc);
@@ -259,7 +324,13 @@ fn part_and(alloc: Global, grouped: bool, depth: u32, tokens: &[Token]) -> Resul
 }
 
 #[cycle(cond)]
-fn more_parts(alloc: Global, grouped: bool, depth: u32, mut members: Tests, mut rest: &[Token]) -> Result<(Tests, &[Token]), SynBad>
+fn more_parts(
+    alloc: Global,
+    grouped: bool,
+    depth: u32,
+    mut members: Tests,
+    mut rest: &[Token],
+) -> Result<(Tests, &[Token]), SynBad>
     ensures { Gives (λ x. (x.0, x.1.now)) result (more_at (is symbol.And) (token_at (is symbol.And)) (part_peek depth) (λ _. part_at grouped depth) 256 (length rest.entry.now) members rest.entry.now) }
 {
     'parts: for _ in 0..rest.len() {
@@ -275,7 +346,13 @@ fn more_parts(alloc: Global, grouped: bool, depth: u32, mut members: Tests, mut 
 
 // A member of an OR list, or why there is none past the limit.
 #[cycle(cond)]
-fn or_member(alloc: Global, grouped: bool, depth: u32, past: bool, tokens: &[Token]) -> Result<(Test, &[Token]), SynBad>
+fn or_member(
+    alloc: Global,
+    grouped: bool,
+    depth: u32,
+    past: bool,
+    tokens: &[Token],
+) -> Result<(Test, &[Token]), SynBad>
     ensures { Gives (λ x. (x.0, x.1.now)) result (entry_at past (part_peek depth) (ands_at (part_peek depth) (part_at grouped depth)) tokens.now) }
 {
     if past {
@@ -288,7 +365,12 @@ fn or_member(alloc: Global, grouped: bool, depth: u32, past: bool, tokens: &[Tok
 // cond = part-and { OR part-and }
 #[tactic(auto, unfolding(pm_lexer::specs::Reading::list_at, crate::specs::Reading::cond_at))]
 #[cycle(cond)]
-fn cond(alloc: Global, grouped: bool, depth: u32, tokens: &[Token]) -> Result<(Test, &[Token]), SynBad>
+fn cond(
+    alloc: Global,
+    grouped: bool,
+    depth: u32,
+    tokens: &[Token],
+) -> Result<(Test, &[Token]), SynBad>
     ensures { Gives (λ x. (x.0, x.1.now)) result (cond_at (part_peek depth) (part_at grouped depth) tokens.now) }
 {
     let mut members = Tests::new(alloc);
@@ -299,7 +381,13 @@ fn cond(alloc: Global, grouped: bool, depth: u32, tokens: &[Token]) -> Result<(T
 }
 
 #[cycle(cond)]
-fn more_ands(alloc: Global, grouped: bool, depth: u32, mut members: Tests, mut rest: &[Token]) -> Result<(Tests, &[Token]), SynBad>
+fn more_ands(
+    alloc: Global,
+    grouped: bool,
+    depth: u32,
+    mut members: Tests,
+    mut rest: &[Token],
+) -> Result<(Tests, &[Token]), SynBad>
     ensures { Gives (λ x. (x.0, x.1.now)) result (more_at (is symbol.Or) (token_at (is symbol.Or)) (part_peek depth) (λ _. ands_at (part_peek depth) (part_at grouped depth)) 256 (length rest.entry.now) members rest.entry.now) }
 {
     'ands: for _ in 0..rest.len() {
@@ -315,7 +403,12 @@ fn more_ands(alloc: Global, grouped: bool, depth: u32, mut members: Tests, mut r
 
 /// A condition with at most so many open parentheses and NOTs, in which aggregates may stand where it is grouped.
 #[tactic(auto, unfolding(crate::specs::Reading::condition_at))]
-pub(crate) fn condition(alloc: Global, grouped: bool, depth: u32, tokens: &[Token]) -> Result<(Test, &[Token]), SynBad>
+pub(crate) fn condition(
+    alloc: Global,
+    grouped: bool,
+    depth: u32,
+    tokens: &[Token],
+) -> Result<(Test, &[Token]), SynBad>
     ensures { Gives (λ x. (x.0, x.1.now)) result (condition_at grouped depth tokens.now) }
 {
     cond(alloc, grouped, depth, tokens)

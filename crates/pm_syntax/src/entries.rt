@@ -30,7 +30,10 @@ impl Entry for ColumnName {
 
 // [ [ AS ] name ]
 #[tactic(auto, unfolding(crate::specs::Reading::given_at))]
-pub(crate) fn given(alloc: Global, tokens: &[Token]) -> Result<(Option<PlacedName>, &[Token]), SynBad>
+pub(crate) fn given(
+    alloc: Global,
+    tokens: &[Token],
+) -> Result<(Option<PlacedName>, &[Token]), SynBad>
     ensures { Gives (λ x. (x.0, x.1.now)) result (given_at tokens.now) }
 {
     if let Some(rest) = behind(Symbol::As, tokens) {
@@ -116,7 +119,10 @@ impl Entry for OrderItem {
 pub(crate) fn literal_begins(token: &Token) -> bool
     ensures { result ≡ begins_literal token.now }
 {
-    is(Symbol::Minus, token) || is(Symbol::Text, token) || is(Symbol::Null, token) || is(Symbol::Number, token)
+    is(Symbol::Minus, token)
+        || is(Symbol::Text, token)
+        || is(Symbol::Null, token)
+        || is(Symbol::Number, token)
 }
 
 pub(crate) fn literal_peek(tokens: &[Token]) -> Result<(&Token, &[Token]), SynBad>

@@ -11,15 +11,25 @@ use std::alloc::Global;
 
 // A column, behind its first name.
 #[tactic(auto, unfolding(crate::specs::Reading::column_behind))]
-fn column_behind(alloc: Global, first: PlacedName, tokens: &[Token]) -> Result<(ColumnName, &[Token]), SynBad>
+fn column_behind(
+    alloc: Global,
+    first: PlacedName,
+    tokens: &[Token],
+) -> Result<(ColumnName, &[Token]), SynBad>
     ensures { Gives (λ x. (x.0, x.1.now)) result (column_behind first tokens.now) }
 {
     let Some(rest) = behind(Symbol::Point, tokens) else {
-        let column = ColumnName { alias: None, name: first };
+        let column = ColumnName {
+            alias: None,
+            name: first,
+        };
         return Ok((column, tokens));
     };
     let (name, rest) = name(alloc, rest)?;
-    let column = ColumnName { alias: Some(first), name };
+    let column = ColumnName {
+        alias: Some(first),
+        name,
+    };
     Ok((column, rest))
 }
 
@@ -34,7 +44,12 @@ pub(crate) fn column(alloc: Global, tokens: &[Token]) -> Result<(ColumnName, &[T
 
 // What stands between a function's parentheses.
 #[tactic(auto, unfolding(crate::specs::Reading::call_behind))]
-fn call_behind<'a>(alloc: Global, first: &Token, func: Func, tokens: &'a [Token]) -> Result<(Expr, &'a [Token]), SynBad>
+fn call_behind<'a>(
+    alloc: Global,
+    first: &Token,
+    func: Func,
+    tokens: &'a [Token],
+) -> Result<(Expr, &'a [Token]), SynBad>
     requires { func_of first.now ≡ Some func }
     ensures { Gives (λ x. (x.0, x.1.now)) result (call_behind first.now tokens.now) }
 {
@@ -52,7 +67,11 @@ fn call_behind<'a>(alloc: Global, first: &Token, func: Func, tokens: &'a [Token]
 
 // An expression, behind its first name.
 #[tactic(auto, unfolding(crate::specs::Reading::expr_behind))]
-fn expr_behind<'a>(alloc: Global, first: &Token, tokens: &'a [Token]) -> Result<(Expr, &'a [Token]), SynBad>
+fn expr_behind<'a>(
+    alloc: Global,
+    first: &Token,
+    tokens: &'a [Token],
+) -> Result<(Expr, &'a [Token]), SynBad>
     ensures { Gives (λ x. (x.0, x.1.now)) result (expr_behind first.now tokens.now) }
 {
     if let Some(func) = func(first) {
@@ -111,7 +130,11 @@ fn term(alloc: Global, grouped: bool, tokens: &[Token]) -> Result<(Expr, &[Token
 
 // operand = expr | literal
 #[tactic(auto, unfolding(crate::specs::Reading::operand_at))]
-pub(crate) fn operand(alloc: Global, grouped: bool, tokens: &[Token]) -> Result<(Atom, &[Token]), SynBad>
+pub(crate) fn operand(
+    alloc: Global,
+    grouped: bool,
+    tokens: &[Token],
+) -> Result<(Atom, &[Token]), SynBad>
     ensures { Gives (λ x. (x.0, x.1.now)) result (operand_at grouped tokens.now) }
 {
     if sees(Symbol::Name, tokens) {

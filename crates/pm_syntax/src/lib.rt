@@ -9,11 +9,13 @@ pub mod lists;
 pub mod numbers;
 pub mod statement;
 pub mod terminals;
+#[cfg(test)]
+mod tests;
 pub mod tree;
 
 pub use fault::SynBad;
 pub use statement::parse;
 pub use tree::{
-    Atom, ColumnName, ColumnNames, Comparison, Expr, Func, Item, Items, Literal, Literals, OrderItem, OrderItems,
-    PlacedName, Select, SelectItems, Source, Sources, Test, Tests,
+    Atom, ColumnName, ColumnNames, Comparison, Expr, Func, Item, Items, Literal, Literals,
+    OrderItem, OrderItems, PlacedName, Select, SelectItems, Source, Sources, Test, Tests,
 };

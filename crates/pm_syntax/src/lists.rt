@@ -30,7 +30,11 @@ pub(crate) trait Entry: Sized + Drop {
 }
 
 // An entry, or why there is none past the limit.
-fn next_entry<E: Entry>(alloc: Global, past: bool, tokens: &[Token]) -> Result<(E, &[Token]), SynBad>
+fn next_entry<E: Entry>(
+    alloc: Global,
+    past: bool,
+    tokens: &[Token],
+) -> Result<(E, &[Token]), SynBad>
     ensures { Gives (λ x. (x.0, x.1.now)) result (entry_at past E.peeks E.reads tokens.now) }
 {
     if past {
@@ -62,7 +66,11 @@ fn more<E: Entry>(
 
 // One or more entries with commas between them, at most so many.
 #[tactic(auto, unfolding(pm_lexer::specs::Reading::list_at))]
-pub(crate) fn list<E: Entry>(alloc: Global, limit: usize, tokens: &[Token]) -> Result<(Items<E>, &[Token]), SynBad>
+pub(crate) fn list<E: Entry>(
+    alloc: Global,
+    limit: usize,
+    tokens: &[Token],
+) -> Result<(Items<E>, &[Token]), SynBad>
     ensures { Gives (λ x. (x.0, x.1.now)) result (list_at (is symbol.Comma) E.peeks E.reads limit tokens.now) }
 {
     let mut list = Items::new(alloc);

@@ -1,5 +1,6 @@
-ghost use Rattle.std.specs.Prelude.{◌≡◌, length, nat_le, Ok, [], ◌∷◌};
-ghost use Rattle.std.specs.Option.{option_copied};
+ghost use Rattle.std.specs.Prelude.{◌≡◌, ℕ, length, IfOk, IsErrOf, MatchResult};
+ghost use Rattle.pm_syntax.specs.declared.tree.Select.{Select};
+ghost use Rattle.pm_syntax.specs.Statement.{Reads, ExpectedAt, TooDeepAt, TooManyAt};
 ghost use Rattle.pm_lexer.specs.declared.symbol.Symbol.TheVariants as symbol;
 ghost use Rattle.pm_lexer.specs.Symbol.{is};
 ghost use Rattle.pm_lexer.specs.Reading.{token_at, entry_at, more_at, sees};
@@ -40,7 +41,9 @@ fn joins(tokens: &[Token]) -> bool
 {
     match tokens {
         [] => false,
-        [token, ..] => is(Symbol::Comma, token) || is(Symbol::Join, token) || is(Symbol::Inner, token),
+        [token, ..] => is(Symbol::Comma, token)
+            || is(Symbol::Join, token)
+            || is(Symbol::Inner, token),
     }
 }
 
@@ -85,7 +88,12 @@ fn source(alloc: Global, joined: bool, tokens: &[Token]) -> Result<(Source, &[To
 }
 
 // A further source, or why there is none past the limit.
-fn next_source(alloc: Global, past: bool, joined: bool, tokens: &[Token]) -> Result<(Source, &[Token]), SynBad>
+fn next_source(
+    alloc: Global,
+    past: bool,
+    joined: bool,
+    tokens: &[Token],
+) -> Result<(Source, &[Token]), SynBad>
     ensures { Gives (λ x. (x.0, x.1.now)) result (entry_at past (token_at (is symbol.Name)) (source_at 32 joined) tokens.now) }
 {
     if past {
@@ -96,7 +104,11 @@ fn next_source(alloc: Global, past: bool, joined: bool, tokens: &[Token]) -> Res
 }
 
 // Further sources.
-fn more_sources(alloc: Global, mut list: Sources, mut rest: &[Token]) -> Result<(Sources, &[Token]), SynBad>
+fn more_sources(
+    alloc: Global,
+    mut list: Sources,
+    mut rest: &[Token],
+) -> Result<(Sources, &[Token]), SynBad>
     ensures { Gives (λ x. (x.0, x.1.now)) result (more_at joins join_at (token_at (is symbol.Name)) (source_at 32) 64 (length rest.entry.now) list rest.entry.now) }
 {
     'sources: for _ in 0..rest.len() {
@@ -209,7 +221,20 @@ fn whole(alloc: Global, tokens: &[Token]) -> Result<Select, SynBad>
     }
 }
 
-/// The statement that the tokens are.
-pub fn parse(alloc: Global, tokens: &Tokens) -> Result<Select, SynBad> {
+/// The SELECT statement that the tokens are: exactly where they have a reading within the limits, and it is that
+/// reading. At most 64 entries stand in SELECT, FROM, GROUP BY and ORDER BY, 256 members in an AND, OR or IN list, and
+/// 32 parentheses and NOTs of a condition are open.
+///
+/// `Expected` is the first token with which no statement begins, `TooDeep` the parenthesis or NOT that is the 33rd open
+/// one, and `TooMany` the first token of the entry past the limit of its list; the one with the least place, and at one
+/// place in this order. `Memory` is want of memory; it also stands for a number of more than 31 bytes, which no text
+/// has. The grammar is a part of SQL's. The time is linear in the tokens, and the depth of calls is bounded.
+pub fn parse(alloc: Global, tokens: &Tokens) -> Result<Select, SynBad>
+    ensures reads { IfOk result (Reads tokens.now) }
+    ensures only { (select : Select) → Reads tokens.now select → MatchResult result (λ s. s ≡ select) (λ e. e ≡ SynBad.Memory) }
+    ensures expected { (p : ℕ) → IsErrOf result (SynBad.Expected p) → ExpectedAt tokens.now p }
+    ensures too_deep { (p : ℕ) → IsErrOf result (SynBad.TooDeep p) → TooDeepAt tokens.now p }
+    ensures too_many { (p : ℕ) → IsErrOf result (SynBad.TooMany p) → TooManyAt tokens.now p }
+{
     whole(alloc, tokens.as_slice())
 }

@@ -30,8 +30,14 @@ pub enum Func {
 #[derive(Debug, Drop)]
 pub enum Expr {
     Column(ColumnName),
-    CountAll { at: u64 },
-    Call { func: Func, column: ColumnName, at: u64 },
+    CountAll {
+        at: u64,
+    },
+    Call {
+        func: Func,
+        column: ColumnName,
+        at: u64,
+    },
 }
 
 /// A selected expression, with the name that it is given.
@@ -99,10 +105,29 @@ pub enum Test {
     Any(sqlite_items::Items<Test>),
     All(sqlite_items::Items<Test>),
     Not(sqlite_items::Boxed<Test>),
-    Compare { how: Comparison, left: Atom, right: Atom, at: u64 },
-    IsNull { of: Atom, negated: bool },
-    OneOf { of: Atom, list: Literals, negated: bool, at: u64 },
-    Between { of: Atom, low: Atom, high: Atom, negated: bool, at: u64 },
+    Compare {
+        how: Comparison,
+        left: Atom,
+        right: Atom,
+        at: u64,
+    },
+    IsNull {
+        of: Atom,
+        negated: bool,
+    },
+    OneOf {
+        of: Atom,
+        list: Literals,
+        negated: bool,
+        at: u64,
+    },
+    Between {
+        of: Atom,
+        low: Atom,
+        high: Atom,
+        negated: bool,
+        at: u64,
+    },
 }
 
 /// The members of a condition.

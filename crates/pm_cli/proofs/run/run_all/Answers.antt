@@ -1,10 +1,8 @@
-use Rattle.std.proofs.Common.{◌≡◌, ℕ, ◌+◌, ◌≤◌, ◌++◌, Ok, sym, ap, ◌∙◌, arith, append_assoc}
+use Rattle.std.proofs.Common.{ℕ, ◌+◌, ◌++◌, Ok, ap, ◌∙◌, arith, append_assoc}
 use Rattle.pm_io.specs.Sink.{gained}
 use Rattle.pm_io.proofs.Outside.{gained-gained}
 use Rattle.pm_plan.specs.Tree.{tree_of}
 use Rattle.pm_plan.specs.Outputs.{whole_work}
-use Rattle.pm_cli.specs.declared.run.Turn.{Turn}
-use Rattle.pm_cli.specs.declared.run.Turn.TheVariants.{Went, Ended}
 use Rattle.pm_cli.specs.RunState.{RunState}
 use Rattle.pm_cli.specs.Text.{head_text, lines_until, event_lines, end_text}
 use Rattle.pm_cli.proofs.Turns.{goes-on, lines-next}
@@ -27,8 +25,8 @@ loop-run-preserved g c =
           ∙ ap (λ m. gained m lines) c.loop-run.invariant.lines
           ∙ gained-gained (written a.sink.now) so_far lines
           ∙ ap (gained (written a.sink.now))
-              (append_assoc (head_text a.plan.now) (lines_until a.plan.now a.db.now a.every old.taken) lines
-              ∙ ap (λ t. head_text a.plan.now ++ t) (lines-next a.plan.now a.db.now a.every old new c.loop-run.invariant.going next));
+          (append_assoc (head_text a.plan.now) (lines_until a.plan.now a.db.now a.every old.taken) lines
+          ∙ ap (λ t. head_text a.plan.now ++ t) (lines-next a.plan.now a.db.now a.every old new c.loop-run.invariant.going next));
       faults = omega (arith, c.loop-run.invariant.faults, c.turn.ensures.faults);
     }
 

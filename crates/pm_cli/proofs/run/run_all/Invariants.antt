@@ -1,4 +1,4 @@
-use Rattle.std.proofs.Common.{◌≡◌, ◌-◌, ◌+◌, ◌≤◌, ◌++◌}
+use Rattle.std.proofs.Common.{◌≡◌, ◌-◌, ◌≤◌, ◌++◌}
 use Rattle.pm_io.specs.Sink.{gained}
 use Rattle.pm_plan.specs.Tree.{tree_of}
 use Rattle.pm_plan.specs.Outputs.{whole_work}

@@ -1,7 +1,6 @@
-use Rattle.std.proofs.Common.{◌≡◌, ◌≤◌, ◌+◌, List, [], ◌∷◌, ◌++◌, length, take, subst, sym, ap, ◌∙◌, arith}
+use Rattle.std.proofs.Common.{◌≤◌, [], ◌∷◌, ◌++◌, length, take, subst, sym, ap, ◌∙◌, arith}
 use Rattle.std.proofs.lemmas.List.{take_all}
 use Rattle.pm_values.specs.ValueText.{HasText, value_text}
-use Rattle.pm_plan.specs.Rows.{cell}
 use Rattle.pm_cli.specs.Ticks.{last_row}
 use Rattle.pm_cli.specs.Text.{row_texts}
 use Rattle.pm_cli.proofs.RootRows.{FitsKinds, root-fits, length-texts, column-has-text, more-texts}

@@ -1,5 +1,4 @@
-use Rattle.std.proofs.Common.{ℕ, List, ◌≡◌, ◌<◌, ◌≤◌, ◌+◌, ◌∷◌, length, drop, get_or, sym, ◌∙◌, ap, arith}
-use Rattle.pm_lexer.specs.Pieces.{single_quotes}
+use Rattle.std.proofs.Common.{ℕ, List, ◌≡◌, ◌+◌, ◌∷◌, length, ap, arith}
 use Rattle.pm_lexer.proofs.Quotation.{single, kept_plain, kept_alone, single_end}
 use Rattle.pm_lexer.proofs.head.single_quotes_len.Goals as goal
 use Rattle.pm_lexer.proofs.head.single_quotes_len.Goals.{then-text-at+then-at-text+then-text-at-2, else-text-at, else-text-at-via-then-text-at+then-at-text+else-text-at-2, else-text-at-via-then-text-at+else-at-text, else-text-at-via-else-text-at}

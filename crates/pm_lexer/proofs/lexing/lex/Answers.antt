@@ -1,5 +1,5 @@
-use Rattle.std.proofs.Common.{rules, arith, ◌≡◌, ◌∷◌, [], ◌++◌, length, Ok, sym, ◌∙◌, ap, All, refl}
-use Rattle.pm_lexer.specs.Tokens.{tokens_of, tokens_behind, all_before, IsShortNumber}
+use Rattle.std.proofs.Common.{rules, arith, sym, ◌∙◌, ap, refl}
+use Rattle.pm_lexer.specs.Tokens.{tokens_of, tokens_behind, all_before}
 use Rattle.pm_lexer.proofs.Walk.{walk_end, all_before-none}
 use Rattle.pm_lexer.proofs.lexing.lex.Goals as goal
 

@@ -1,8 +1,7 @@
-use Rattle.std.proofs.Common.{rules, arith, ◌≡◌, ◌≢◌, ◌≤◌, ◌∷◌, [], ◌++◌, length, take, Ok, Err, IfErr, sym, ◌∙◌, ap, All, length-take, refl}
+use Rattle.std.proofs.Common.{arith, ◌≡◌, take, sym, ◌∙◌, ap, length-take, refl}
 use Rattle.std.proofs.lemmas.Result.{err_from_is_err_and}
 use Rattle.std.proofs.lemmas.List.Elements.{All-push}
-use Rattle.pm_lexer.specs.declared.token.TokenKind.TheVariants as kind
-use Rattle.pm_lexer.specs.Tokens.{tokens_behind, all_before, IsShortNumber}
+use Rattle.pm_lexer.specs.Tokens.{all_before, IsShortNumber}
 use Rattle.pm_lexer.proofs.Walk.{walk_gap, walk_piece, walk_fault, all_before-before}
 use Rattle.pm_lexer.proofs.lexing.step.Goals as goal
 

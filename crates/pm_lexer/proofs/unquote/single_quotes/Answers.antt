@@ -1,5 +1,5 @@
-use Rattle.std.proofs.Common.{rules, ◌≡◌, ◌++◌, take, drop, length, arith, sym, ◌∙◌, ap, refl, string_bytes}
-use Rattle.pm_lexer.specs.Pieces.{behind_quote, single_quotes}
+use Rattle.std.proofs.Common.{rules, ◌≡◌, ◌++◌, sym, ◌∙◌, ap, refl, string_bytes}
+use Rattle.pm_lexer.specs.Pieces.{single_quotes}
 use Rattle.pm_lexer.proofs.QuoteEnds.{boundary_behind_quote, singled_more, unquoted}
 use Rattle.pm_lexer.proofs.unquote.single_quotes.Goals as goal
 

@@ -28,10 +28,10 @@ decreases-cond l = 7 * l.depth + 6
 
 abbrev pub invariant-more_parts-parts : goal.invariant-more_parts-parts
 invariant-more_parts-parts l =
-  more_at (is symbol.And) (token_at (is symbol.And)) (part_peek l.depth) (λ _. part_at l.grouped l.depth) 256 (l.end - l.counter) l.members l.rest
+    more_at (is symbol.And) (token_at (is symbol.And)) (part_peek l.depth) (λ _. part_at l.grouped l.depth) 256 (l.end - l.counter) l.members l.rest
     ≡ more_at (is symbol.And) (token_at (is symbol.And)) (part_peek l.depth) (λ _. part_at l.grouped l.depth) 256 (length l.initial.rest) l.initial.members l.initial.rest
 
 abbrev pub invariant-more_ands-ands : goal.invariant-more_ands-ands
 invariant-more_ands-ands l =
-  more_at (is symbol.Or) (token_at (is symbol.Or)) (part_peek l.depth) (λ _. ands_at (part_peek l.depth) (part_at l.grouped l.depth)) 256 (l.end - l.counter) l.members l.rest
+    more_at (is symbol.Or) (token_at (is symbol.Or)) (part_peek l.depth) (λ _. ands_at (part_peek l.depth) (part_at l.grouped l.depth)) 256 (l.end - l.counter) l.members l.rest
     ≡ more_at (is symbol.Or) (token_at (is symbol.Or)) (part_peek l.depth) (λ _. ands_at (part_peek l.depth) (part_at l.grouped l.depth)) 256 (length l.initial.rest) l.initial.members l.initial.rest

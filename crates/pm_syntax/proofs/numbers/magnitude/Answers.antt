@@ -1,4 +1,4 @@
-use Rattle.std.proofs.Common.{◌<◌, ◌≤◌, ◌+◌, ◌-◌, ◌*◌, ◌^◌, arith, slice_index_or, rules}
+use Rattle.std.proofs.Common.{arith, slice_index_or, rules}
 use Rattle.pm_syntax.proofs.Digits.{digit_fits, power_below}
 use Rattle.pm_syntax.proofs.numbers.magnitude.Goals as goal
 

@@ -1,4 +1,4 @@
-use Rattle.std.proofs.Common.{◌≡◌, ◌≤◌, ◌<◌, ◌^◌, length, arith}
+use Rattle.std.proofs.Common.{◌≤◌, length, arith}
 use Rattle.pm_cli.proofs.UnderPlan.{kinds-few}
 use Rattle.pm_cli.proofs.exec.Exec.root_width.Goals as goal
 

@@ -1,9 +1,9 @@
-use Rattle.std.proofs.Common.{◌≡◌, ◌+◌, ◌<◌, ◌≤◌, ◌++◌, length, get_or, subst, sym, ap, refl, ◌∙◌, arith}
+use Rattle.std.proofs.Common.{◌≡◌, ◌+◌, ◌≤◌, ◌++◌, get_or, subst, sym, ap, ◌∙◌, arith}
 use Rattle.pm_io.specs.Sink.{gained, GainsPart}
 use Rattle.pm_io.proofs.Outside.{gained-gained}
 use Rattle.pm_io.proofs.Parts.{on_err, part_first, part_later}
 use Rattle.pm_plan.specs.Tree.{tree_of}
-use Rattle.pm_plan.specs.Outputs.{output, whole_work}
+use Rattle.pm_plan.specs.Outputs.{whole_work}
 use Rattle.pm_lines.specs.Progress.{end_line}
 use Rattle.pm_plan.specs.declared.gauge.Gauge.{Gauge}
 use Rattle.pm_cli.specs.declared.exec.iter.Tick.{Tick}
@@ -61,7 +61,7 @@ returns-in_err-write_event-in-Ok-Row-clause-part g c =
     ∙ sym (turn-goes (run_of a) (room (run_of a) e is c.in-Ok-Row.ensures.within))
     ∙ ap turn_text c.self.view_is in
     on_err c.from_residual-in_err-write_event-in-Ok-Row.result
-        (subst (GainsPart old new) text (part_first old new row progress c.in_err-write_event-in-Ok-Row.ensures.part))
+    (subst (GainsPart old new) text (part_first old new row progress c.in_err-write_event-in-Ok-Row.ensures.part))
 
 pub returns-in_err-write_progress-in-Ok-Row-clause-part : goal.returns-in_err-write_progress-in-Ok-Row-clause-part
 returns-in_err-write_progress-in-Ok-Row-clause-part g c =
@@ -79,8 +79,8 @@ returns-in_err-write_progress-in-Ok-Row-clause-part g c =
     ∙ sym (turn-goes (run_of a) (room (run_of a) e is c.in-Ok-Row.ensures.within))
     ∙ ap turn_text c.self.view_is in
     on_err c.from_residual-in_err-write_progress-in-Ok-Row.result
-        (subst (GainsPart old new) text
-            (part_later old mid new row progress c.in_ok-write_event-in-Ok-Row.ensures.whole c.in_err-write_progress-in-Ok-Row.ensures.part))
+    (subst (GainsPart old new) text
+    (part_later old mid new row progress c.in_ok-write_event-in-Ok-Row.ensures.whole c.in_err-write_progress-in-Ok-Row.ensures.part))
 
 pub returns-in_ok-put_end-in-Ok-End-clause-ended : goal.returns-in_ok-put_end-in-Ok-End-clause-ended
 returns-in_ok-put_end-in-Ok-End-clause-ended g c = λ _.

@@ -1,4 +1,4 @@
-use Rattle.std.proofs.Common.{◌≡◌, ◌+◌, ◌≤◌, arith}
+use Rattle.std.proofs.Common.{arith}
 use Rattle.pm_cli.proofs.run.Run.turn.Goals as goal
 
 pub returns-in-Spent-clause-at_most_one : goal.returns-in-Spent-clause-at_most_one

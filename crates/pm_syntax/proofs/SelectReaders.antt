@@ -1,0 +1,494 @@
+-- The readers of the parts of a statement, and of a whole one, read their productions.
+use Rattle.std.proofs.Common.{◌≡◌, ◌⊎◌, ℕ, Bool, true, false, List, [], ◌∷◌, length, Ok, Option, Some, None, refl, inl, inr, ◌||◌, is_some, arith}
+use Rattle.pm_lexer.specs.declared.token.Token.{Token}
+use Rattle.pm_lexer.specs.declared.symbol.Symbol.{Symbol}
+use Rattle.pm_lexer.specs.declared.symbol.Symbol.TheVariants as symbol
+use Rattle.pm_lexer.specs.Symbol.{same_symbol, is}
+use Rattle.pm_lexer.specs.Language.{Gate, Is, IsFurther, IsList}
+use Rattle.pm_lexer.specs.Reading.{Read, ◌>>=◌, token_at, list_at, more_at}
+use Rattle.pm_lexer.proofs.Phrases.{Phrase, Next, Avoids, Reader, Nothing, NotOther, Able, Began}
+use Rattle.pm_lexer.proofs.Readers.{Then, Or, pure_reader, then_law, then_reader, then_began, same_reader, map_reader, wider_reader}
+use Rattle.pm_lexer.proofs.Lists.{Peek, Further, further_able, more_clear}
+use Rattle.pm_lexer.proofs.Furthers.{Parts, further_law, choice_reader, behind_reader, optional_reader, list_reader, token_peek}
+use Rattle.pm_syntax.specs.declared.tree.PlacedName.{PlacedName}
+use Rattle.pm_syntax.specs.declared.tree.ColumnName.{ColumnName}
+use Rattle.pm_syntax.specs.declared.tree.Expr.{Expr}
+use Rattle.pm_syntax.specs.declared.tree.Item.{Item}
+use Rattle.pm_syntax.specs.declared.tree.Items.{Items}
+use Rattle.pm_syntax.specs.declared.tree.Items.TheVariants as items
+use Rattle.pm_syntax.specs.declared.tree.Source.{Source}
+use Rattle.pm_syntax.specs.declared.tree.Test.{Test}
+use Rattle.pm_syntax.specs.declared.tree.OrderItem.{OrderItem}
+use Rattle.pm_syntax.specs.declared.tree.Select.{Select}
+use Rattle.pm_syntax.specs.Terminals.{named}
+use Rattle.pm_syntax.specs.Grammar.{IsName, IsColumn, IsExpr, IsOptional, IsCondition, IsGiven, IsItem, IsItems, IsJoin, IsOn, IsSource, IsSources, IsFilter, IsGroups, IsHaving, IsDirection, IsKey, IsOrders, IsSelect}
+use Rattle.pm_syntax.specs.Reading.{name_at, column_at, expr_at, optional_at, condition_at, given_at, item_at, items_at, joins, join_at, on_at, source_at, sources_at, where_at, having_at, groups_at, direction_at, key_at, orders_at, select_at}
+use Rattle.pm_syntax.proofs.Tokens.{two_symbols, sample, stands_select, stands_distinct, stands_from, stands_join, stands_inner, stands_on, stands_where, stands_group, stands_by, stands_having, stands_order, stands_asc, stands_desc, stands_as, stands_comma, stands_star, stands_semicolon, stands_end, symbol_reader}
+use Rattle.pm_syntax.proofs.Sets.{AnyOf, Begins, widened, not_other, none_other, none_stops, apart, within, disjoint}
+use Rattle.pm_syntax.proofs.Helpers.{maybe_reader}
+use Rattle.pm_syntax.proofs.ExprReaders.{name_reader, column_reader, column_began, expr_reader, expr_begins, expr_began}
+use Rattle.pm_syntax.proofs.PartReaders.{Conds, CondEnds, condition_reader}
+
+-- no phrase of either
+or_other : {A : Type 0} (S : Token → Type 0) (P Q : Phrase A) (ts : List Token) → NotOther S P ts → NotOther S Q ts → NotOther S (Or P Q) ts
+or_other S P Q ts p q d g next w avoids heads h = elim h [ inl a ↦ p d g next w avoids heads a | inr b ↦ q d g next w avoids heads b ]
+
+-- [ [ AS ] name ]
+abbrev Named : Phrase (Option PlacedName)
+Named _ _ next = IsName (λ name. next (Some name))
+
+abbrev Unnamed : Phrase (Option PlacedName)
+Unnamed _ _ next = next None
+
+named_begins : Begins Named (λ t. is symbol.Name t ≡ true)
+named_begins d g next [] h = h
+named_begins d g next (t ∷ ts) h = h.0
+
+given_reader : (S : Token → Type 0) → ((t : Token) → is symbol.Name t ≡ true → S t) → ((t : Token) → is symbol.As t ≡ true → S t) → (d : ℕ) → Reader S (λ _ _. IsGiven) d given_at
+unfolding given_at same_symbol
+given_reader S nameS asS d =
+    let names : Reader S Named d (λ ts. name_at ts >>= λ name. Ok (Some name.0, name.1)) = map_reader S (λ _ _. IsName) (λ name. Some name) d name_at (name_reader S d) in
+    same_reader S (Or (Or Named Unnamed) (Then (λ _ _. Is (is symbol.As)) (λ _. Named))) (λ _ _. IsGiven) d _
+    (record {
+      to = λ d g next ts h. elim h [ inl o ↦ elim o [ inl n ↦ inr (inl n) | inr u ↦ inl u ] | inr a ↦ inr (inr a) ];
+      from = λ d g next ts h. elim h [ inl u ↦ inl (inr u) | inr o ↦ elim o [ inl n ↦ inl (inl n) | inr a ↦ inr a ] ];
+    })
+    (behind_reader S (is symbol.As) (sample symbol.As) stands_as Named (Or Named Unnamed) d _ _ names
+    (choice_reader S Named Unnamed (is symbol.Name) d _ (λ ts. Ok (None, ts)) names (pure_reader S d None) (none_stops S (is symbol.Name) None nameS)
+    (none_other S Named (λ t. is symbol.Name t ≡ true) (is symbol.Name) named_begins (λ t e. e)))
+    (λ ts e. or_other S Named Unnamed ts (not_other S Named (λ t. is symbol.Name t ≡ true) (is symbol.As) named_begins (λ t a n. two_symbols symbol.As symbol.Name t refl a n) ts e) (none_stops S (is symbol.As) None asS ts e)))
+
+-- what given names and their words say of a token that begins nothing of them
+given_not : (s : Symbol) → same_symbol s symbol.Name ≡ false → same_symbol s symbol.As ≡ false → (next : Next (Option PlacedName)) (t : Token) (ts : List Token) → is s t ≡ true → (next None (t ∷ ts) → ⊥) → IsGiven next (t ∷ ts) → ⊥
+given_not s n a next t ts e none h = elim h [ inl u ↦ none u | inr o ↦ elim o [ inl m ↦ two_symbols s symbol.Name t n e m.0 | inr b ↦ two_symbols s symbol.As t a e b.0 ] ]
+
+-- item = expr [ [ AS ] name ]
+abbrev ExprEnds : Token → Type 0
+ExprEnds = AnyOf (symbol.Point ∷ symbol.Open ∷ [])
+
+abbrev ItemEnds : Token → Type 0
+ItemEnds = AnyOf (symbol.Point ∷ symbol.Open ∷ symbol.Name ∷ symbol.As ∷ [])
+
+exprs : (d : ℕ) → Reader ExprEnds (λ _ _. IsExpr) d expr_at
+exprs d = expr_reader ExprEnds (λ t e. inl e) (λ t e. inr (inl e)) d
+
+item_clear : (e : Expr) (next : Next Item) → Avoids ItemEnds next → (t : Token) (ts : List Token) → ExprEnds t → IsGiven (λ given. next (record { expr = e; given = given })) (t ∷ ts) → ⊥
+unfolding same_symbol
+item_clear e next avoids t ts s h =
+    let given : Next (Option PlacedName) = λ given. next (record { expr = e; given = given }) in
+    elim s [
+      | inl p ↦ given_not symbol.Point refl refl given t ts p (λ n. avoids (record { expr = e; given = None }) t ts (inl p) n) h
+      | inr o ↦ elim o [ inl p ↦ given_not symbol.Open refl refl given t ts p (λ n. avoids (record { expr = e; given = None }) t ts (inr (inl p)) n) h | inr none ↦ none ]
+    ]
+
+item_reader : (d : ℕ) → Reader ItemEnds (λ _ _. IsItem) d item_at
+unfolding item_at same_symbol
+item_reader d =
+    then_reader ItemEnds ExprEnds (λ _ _. IsExpr) (λ e _ _ next. IsGiven (λ given. next (record { expr = e; given = given }))) d expr_at _ (exprs d)
+    (λ e. map_reader ItemEnds (λ _ _. IsGiven) (λ given. record { expr = e; given = given }) d given_at (given_reader ItemEnds (λ t n. inr (inr (inl n))) (λ t a. inr (inr (inr (inl a)))) d))
+    (λ a d' g next avoids t ts s h. item_clear a next avoids t ts s h)
+
+item_begins : Begins (λ _ _. IsItem) (λ t. is symbol.Name t ≡ true)
+item_begins d g next w h = expr_begins d g (λ e. IsGiven (λ given. next (record { expr = e; given = given }))) w h
+
+given_able : {A : Type 0} (f : Option PlacedName → A) (d : ℕ) → Able (λ _ _ next. IsGiven (λ given. next (f given))) d
+given_able f d = record { more = []; value = f None; ends = λ d' g next v le o h. inl h }
+
+item_look : (d : ℕ) → Peek ItemEnds (λ _ _. IsItem) d (token_at (is symbol.Name))
+item_look d = token_peek ItemEnds (λ _ _. IsItem) (is symbol.Name) d (none_other ItemEnds (λ _ _. IsItem) (λ t. is symbol.Name t ≡ true) (is symbol.Name) item_begins (λ t e. e)) (item_reader d).able
+    (λ t e. then_began {Q = λ e _ _ next. IsGiven (λ given. next (record { expr = e; given = given }))} (λ a. given_able (λ given. record { expr = a; given = given }) d) (expr_began t e d))
+
+abbrev ItemsEnds : Token → Type 0
+ItemsEnds = AnyOf (symbol.Point ∷ symbol.Open ∷ symbol.Name ∷ symbol.As ∷ symbol.Comma ∷ [])
+
+abbrev Stars : Phrase Items
+Stars _ _ next = Is (is symbol.Star) (λ star. next (items.All star.at))
+
+abbrev Listed : Phrase Items
+Listed _ g next = IsList g 64 IsItem (is symbol.Comma) (λ list. next (items.List list))
+
+listed_begins : Begins Listed (λ t. is symbol.Name t ≡ true)
+listed_begins d g next w h = item_begins d g (λ a. IsFurther g 64 (Is (is symbol.Comma)) (λ _. IsItem) (a ∷ []) (λ list. next (items.List list))) w h
+
+stars_begin : Begins Stars (λ t. is symbol.Star t ≡ true)
+stars_begin d g next [] h = h
+stars_begin d g next (t ∷ ts) h = h.0
+
+items_reader : (d : ℕ) → Reader ItemsEnds (λ _ g. IsItems g) d items_at
+unfolding items_at same_symbol
+items_reader d =
+    choice_reader ItemsEnds Stars Listed (is symbol.Star) d _ _
+    (symbol_reader ItemsEnds symbol.Star stands_star _ d _ (λ star. pure_reader ItemsEnds d (items.All star.at)))
+    (map_reader ItemsEnds (λ d g. IsList g 64 IsItem (is symbol.Comma)) (λ list. items.List list) d _
+    (list_reader ItemsEnds ItemEnds (λ _ _. IsItem) (is symbol.Comma) (sample symbol.Comma) stands_comma (token_at (is symbol.Name)) 64 d item_at (item_reader d) (item_look d)
+    (λ t e. inr (inr (inr (inr (inl e))))) (λ t s e. apart symbol.Comma (symbol.Point ∷ symbol.Open ∷ symbol.Name ∷ symbol.As ∷ []) refl t e s)
+    (λ t s. within (symbol.Point ∷ symbol.Open ∷ symbol.Name ∷ symbol.As ∷ []) (symbol.Point ∷ symbol.Open ∷ symbol.Name ∷ symbol.As ∷ symbol.Comma ∷ []) refl t s)))
+    (not_other ItemsEnds Listed (λ t. is symbol.Name t ≡ true) (is symbol.Star) listed_begins (λ t e n. two_symbols symbol.Star symbol.Name t refl e n))
+    (none_other ItemsEnds Stars (λ t. is symbol.Star t ≡ true) (is symbol.Star) stars_begin (λ t e. e))
+
+-- "," | [ INNER ] JOIN
+abbrev Joined : Phrase Bool
+Joined _ _ next = Is (is symbol.Join) (λ _. next true)
+
+abbrev JoinedOr : Phrase Bool
+JoinedOr = Or Joined (Then (λ _ _. Is (is symbol.Inner)) (λ _. Joined))
+
+joined_begins : Begins Joined (λ t. is symbol.Join t ≡ true)
+joined_begins d g next [] h = h
+joined_begins d g next (t ∷ ts) h = h.0
+
+joined_or_begins : Begins JoinedOr (AnyOf (symbol.Join ∷ symbol.Inner ∷ []))
+joined_or_begins d g next [] h = elim h [ inl j ↦ j | inr i ↦ i ]
+joined_or_begins d g next (t ∷ ts) h = elim h [ inl j ↦ inl j.0 | inr i ↦ inr (inl i.0) ]
+
+join_reader : (S : Token → Type 0) (d : ℕ) → Reader S (λ _ _. IsJoin) d join_at
+unfolding join_at same_symbol
+join_reader S d =
+    let joined : Reader S Joined d (λ ts. token_at (is symbol.Join) ts >>= λ join. Ok (true, join.1)) = symbol_reader S symbol.Join stands_join _ d _ (λ _. pure_reader S d true) in
+    same_reader S (Or JoinedOr (Then (λ _ _. Is (is symbol.Comma)) (λ _ _ _ next. next false))) (λ _ _. IsJoin) d _
+    (record {
+      to = λ d g next ts h. elim h [ inl o ↦ elim o [ inl j ↦ inr (inl j) | inr i ↦ inr (inr i) ] | inr c ↦ inl c ];
+      from = λ d g next ts h. elim h [ inl c ↦ inr c | inr o ↦ elim o [ inl j ↦ inl (inl j) | inr i ↦ inl (inr i) ] ];
+    })
+    (behind_reader S (is symbol.Comma) (sample symbol.Comma) stands_comma (λ _ _ next. next false) JoinedOr d (λ r. Ok (false, r)) _ (pure_reader S d false)
+    (behind_reader S (is symbol.Inner) (sample symbol.Inner) stands_inner Joined Joined d _ _ joined joined
+    (not_other S Joined (λ t. is symbol.Join t ≡ true) (is symbol.Inner) joined_begins (λ t e j. two_symbols symbol.Inner symbol.Join t refl e j)))
+    (not_other S JoinedOr (AnyOf (symbol.Join ∷ symbol.Inner ∷ [])) (is symbol.Comma) joined_or_begins (λ t e h. apart symbol.Comma (symbol.Join ∷ symbol.Inner ∷ []) refl t e h)))
+
+join_begins : Begins (λ _ _. IsJoin) (AnyOf (symbol.Comma ∷ symbol.Join ∷ symbol.Inner ∷ []))
+join_begins d g next [] h = elim h [ inl c ↦ c | inr o ↦ elim o [ inl j ↦ j | inr i ↦ i ] ]
+join_begins d g next (t ∷ ts) h = elim h [ inl c ↦ inl c.0 | inr o ↦ elim o [ inl j ↦ inr (inl j.0) | inr i ↦ inr (inr (inl i.0)) ] ]
+
+or_true : (a : Bool) → (a || true) ≡ true
+or_true true = refl
+or_true false = refl
+
+either : (a b : Bool) → (a || b) ≡ true → (a ≡ true) ⊎ (b ≡ true)
+either true b e = inl refl
+either false b e = inr e
+
+joins_first : (t : Token) → AnyOf (symbol.Comma ∷ symbol.Join ∷ symbol.Inner ∷ []) t → joins t ≡ true
+joins_first t h = elim h [
+  | inl c ↦ rw c refl
+  | inr o ↦ elim o [ inl j ↦ rw (j, or_true (is symbol.Comma t)) refl | inr p ↦ elim p [ inl i ↦ rw (i, or_true (is symbol.Comma t || is symbol.Join t)) refl | inr none ↦ absurd none ] ]
+]
+
+first_joins : (t : Token) → joins t ≡ true → AnyOf (symbol.Comma ∷ symbol.Join ∷ symbol.Inner ∷ []) t
+first_joins t e = elim (either (is symbol.Comma t || is symbol.Join t) (is symbol.Inner t) e) [ inr i ↦ inr (inr (inl i)) | inl o ↦ elim (either (is symbol.Comma t) (is symbol.Join t) o) [ inl c ↦ inl c | inr j ↦ inr (inl j) ] ]
+
+-- source = name [ [ AS ] name ], with its condition
+abbrev source_ends : List Symbol
+source_ends = symbol.Point ∷ symbol.Open ∷ symbol.And ∷ symbol.Or ∷ symbol.Name ∷ symbol.As ∷ []
+
+abbrev SourceEnds : Token → Type 0
+SourceEnds = AnyOf source_ends
+
+abbrev On : Bool → Phrase (Option Test)
+On joined d g = IsOn d g joined
+
+on_reader : (joined : Bool) (d : ℕ) → Reader SourceEnds (On joined) d (on_at d joined)
+unfolding on_at same_symbol
+on_reader true d =
+    symbol_reader SourceEnds symbol.On stands_on _ d _ (λ _. map_reader SourceEnds (Conds false) (λ cond. Some cond) d (condition_at false d)
+    (wider_reader CondEnds SourceEnds (Conds false) d (condition_at false d) (λ t s. within (symbol.Point ∷ symbol.Open ∷ symbol.And ∷ symbol.Or ∷ []) source_ends refl t s) (condition_reader false d)))
+on_reader false d = pure_reader SourceEnds d None
+
+abbrev Sourced : Bool → Phrase Source
+Sourced joined d g = IsSource d g joined
+
+abbrev GivenEnds : Token → Type 0
+GivenEnds = AnyOf (symbol.Name ∷ symbol.As ∷ [])
+
+on_clear : (joined : Bool) (d : ℕ) (g : Gate) (next : Next (Option Test)) (t : Token) (ts : List Token) → GivenEnds t → ((a : Option Test) → next a (t ∷ ts) → ⊥) → On joined d g next (t ∷ ts) → ⊥
+unfolding same_symbol
+on_clear true d g next t ts s none h = apart symbol.On (symbol.Name ∷ symbol.As ∷ []) refl t h.0 s
+on_clear false d g next t ts s none h = none None h
+
+source_reader : (joined : Bool) (d : ℕ) → Reader SourceEnds (Sourced joined) d (source_at d joined)
+unfolding source_at same_symbol
+source_reader joined d =
+    then_reader SourceEnds Nothing (λ _ _. IsName) (λ table d g next. IsGiven (λ alias. IsOn d g joined (λ on. next (record { table = table; alias = alias; on = on })))) d name_at _ (name_reader Nothing d)
+    (λ table. then_reader SourceEnds GivenEnds (λ _ _. IsGiven) (λ alias d g next. IsOn d g joined (λ on. next (record { table = table; alias = alias; on = on }))) d given_at _ (given_reader GivenEnds (λ t n. inl n) (λ t a. inr (inl a)) d)
+    (λ alias. map_reader SourceEnds (On joined) (λ on. record { table = table; alias = alias; on = on }) d (on_at d joined) (on_reader joined d))
+    (λ a d' g next avoids t ts s h. on_clear joined d' g _ t ts s (λ on n. avoids _ t ts (within (symbol.Name ∷ symbol.As ∷ []) source_ends refl t s) n) h))
+    (λ a d' g next avoids t ts s h. s)
+
+source_begins : (joined : Bool) → Begins (Sourced joined) (λ t. is symbol.Name t ≡ true)
+source_begins joined d g next [] h = h
+source_begins joined d g next (t ∷ ts) h = h.0
+
+source_began : (joined : Bool) (t : Token) → is symbol.Name t ≡ true → (d : ℕ) → Began (Sourced joined) d [] (t ∷ [])
+source_began joined t e d =
+    then_began {P = λ _ _. IsName} {Q = λ table d g next. IsGiven (λ alias. IsOn d g joined (λ on. next (record { table = table; alias = alias; on = on })))} (λ table. then_began {Q = λ alias d g next. IsOn d g joined (λ on. next (record { table = table; alias = alias; on = on }))}
+    (λ alias. (map_reader SourceEnds (On joined) (λ on. record { table = table; alias = alias; on = on }) d (on_at d joined) (on_reader joined d)).able) (given_able (λ given. given) d))
+    (record { more = []; value = named t; ends = λ d' g next v le o h. (e, h) })
+
+source_look : (joined : Bool) (d : ℕ) → Peek SourceEnds (Sourced joined) d (token_at (is symbol.Name))
+source_look joined d = token_peek SourceEnds (Sourced joined) (is symbol.Name) d (none_other SourceEnds (Sourced joined) (λ t. is symbol.Name t ≡ true) (is symbol.Name) (source_begins joined) (λ t e. e)) (source_reader joined d).able (λ t e. source_began joined t e d)
+
+-- sources = source { "," source | [ INNER ] JOIN source ON cond }
+abbrev sources_ends : List Symbol
+sources_ends = symbol.Comma ∷ symbol.Join ∷ symbol.Inner ∷ source_ends
+
+abbrev SourcesEnds : Token → Type 0
+SourcesEnds = AnyOf sources_ends
+
+no_join : (d : ℕ) (g : Gate) (next : Next Bool) (t : Token) (ts : List Token) → SourceEnds t → IsJoin next (t ∷ ts) → ⊥
+unfolding same_symbol
+no_join d g next t ts s h = elim (join_begins d g next (t ∷ ts) h) [
+  | inl c ↦ apart symbol.Comma source_ends refl t c s
+  | inr o ↦ elim o [ inl j ↦ apart symbol.Join source_ends refl t j s | inr p ↦ elim p [ inl i ↦ apart symbol.Inner source_ends refl t i s | inr none ↦ none ] ]
+]
+
+source_parts : (d : ℕ) → Parts SourcesEnds SourceEnds (λ _ _. IsJoin) Sourced joins join_at (token_at (is symbol.Name)) (source_at d) d
+unfolding same_symbol
+source_parts d = record {
+  reads_sep = join_reader Nothing d;
+  no_sep = λ ts e d g next w heads h. none_other Nothing (λ _ _. IsJoin) (AnyOf (symbol.Comma ∷ symbol.Join ∷ symbol.Inner ∷ [])) joins join_begins joins_first ts e d g next w (λ a t us s n. s) heads h;
+  reads = λ joined. source_reader joined d;
+  looks = λ joined. source_look joined d;
+  ends_list = λ t e. within (symbol.Comma ∷ symbol.Join ∷ symbol.Inner ∷ []) sources_ends refl t (first_joins t e);
+  apart = no_join;
+  within = λ t s. inr (inr (inr s));
+}
+
+pub sources_reader : (d : ℕ) → Reader SourcesEnds IsSources d (sources_at d)
+unfolding sources_at
+sources_reader d =
+    let k = source_parts d in
+    let first = source_reader false d in
+    record {
+      law = λ ts. then_law SourcesEnds SourceEnds (Sourced false) (λ a. Further 64 (λ _ _. IsJoin) Sourced (a ∷ [])) d ts (source_at d false ts)
+          (λ first. more_at joins join_at (token_at (is symbol.Name)) (source_at d) 64 (length first.1) (first.0 ∷ []) first.1) (first.law ts)
+          (λ a r e. further_law 64 k (length r) (a ∷ []) r (omega arith)) (λ a. further_able 64 _ _ (a ∷ []) d)
+          (λ a d' g next avoids t us s h. more_clear SourcesEnds SourceEnds 64 (λ _ _. IsJoin) Sourced [] (λ t s. inr (inr (inr s))) no_join h.0 a d' g next avoids t us s h.1);
+      able = then_began (λ a. further_able 64 (λ _ _. IsJoin) Sourced (a ∷ []) d) first.able;
+    }
+
+-- [ WHERE cond ] and [ HAVING cond ]
+abbrev FilterEnds : Token → Type 0
+FilterEnds = AnyOf (symbol.Where ∷ symbol.Point ∷ symbol.Open ∷ symbol.And ∷ symbol.Or ∷ [])
+
+filter_reader : (d : ℕ) → Reader FilterEnds IsFilter d (where_at d)
+unfolding where_at
+filter_reader d =
+    optional_reader FilterEnds (is symbol.Where) (sample symbol.Where) stands_where (λ d g next. IsCondition false d g (λ cond. next (Some cond))) None d _
+    (map_reader FilterEnds (Conds false) (λ cond. Some cond) d (condition_at false d) (wider_reader CondEnds FilterEnds (Conds false) d (condition_at false d) (λ t s. inr s) (condition_reader false d))) (λ t e. inl e)
+
+abbrev HavingEnds : Token → Type 0
+HavingEnds = AnyOf (symbol.Having ∷ symbol.Point ∷ symbol.Open ∷ symbol.And ∷ symbol.Or ∷ [])
+
+having_reader : (d : ℕ) → Reader HavingEnds IsHaving d (having_at d)
+unfolding having_at
+having_reader d =
+    optional_reader HavingEnds (is symbol.Having) (sample symbol.Having) stands_having (λ d g next. IsCondition true d g (λ cond. next (Some cond))) None d _
+    (map_reader HavingEnds (Conds true) (λ cond. Some cond) d (condition_at true d) (wider_reader CondEnds HavingEnds (Conds true) d (condition_at true d) (λ t s. inr s) (condition_reader true d))) (λ t e. inl e)
+
+-- [ GROUP BY column { "," column } ]
+abbrev ColumnEnds : Token → Type 0
+ColumnEnds = AnyOf (symbol.Point ∷ [])
+
+column_begins : Begins (λ _ _. IsColumn) (λ t. is symbol.Name t ≡ true)
+column_begins d g next [] h = h
+column_begins d g next (t ∷ ts) h = h.0
+
+columns : (d : ℕ) → Reader ColumnEnds (λ _ _. IsColumn) d column_at
+columns d = column_reader ColumnEnds (λ t e. inl e) d
+
+column_look : (d : ℕ) → Peek ColumnEnds (λ _ _. IsColumn) d (token_at (is symbol.Name))
+column_look d = token_peek ColumnEnds (λ _ _. IsColumn) (is symbol.Name) d (none_other ColumnEnds (λ _ _. IsColumn) (λ t. is symbol.Name t ≡ true) (is symbol.Name) column_begins (λ t e. e)) (columns d).able (λ t e. column_began t e d)
+
+abbrev GroupEnds : Token → Type 0
+GroupEnds = AnyOf (symbol.Group ∷ symbol.Comma ∷ symbol.Point ∷ [])
+
+groups_reader : (d : ℕ) → Reader GroupEnds (λ _ g. IsGroups g) d groups_at
+unfolding groups_at same_symbol
+groups_reader d =
+    optional_reader GroupEnds (is symbol.Group) (sample symbol.Group) stands_group (λ _ g next. Is (is symbol.By) (λ _. IsList g 64 IsColumn (is symbol.Comma) next)) [] d (λ ts. token_at (is symbol.By) ts >>= λ by. list_at (is symbol.Comma) (token_at (is symbol.Name)) column_at 64 by.1)
+    (symbol_reader GroupEnds symbol.By stands_by _ d _ (λ _.
+    list_reader GroupEnds ColumnEnds (λ _ _. IsColumn) (is symbol.Comma) (sample symbol.Comma) stands_comma (token_at (is symbol.Name)) 64 d column_at (columns d) (column_look d)
+    (λ t e. inr (inl e)) (λ t s e. apart symbol.Comma (symbol.Point ∷ []) refl t e s) (λ t s. inr (inr s))))
+    (λ t e. inl e)
+
+-- key = expr [ ASC | DESC ]
+abbrev Ascending : Phrase Bool
+Ascending _ _ next = next false
+
+abbrev DirectionEnds : Token → Type 0
+DirectionEnds = AnyOf (symbol.Asc ∷ symbol.Desc ∷ [])
+
+abbrev AscOr : Phrase Bool
+AscOr = Or Ascending (Then (λ _ _. Is (is symbol.Asc)) (λ _. Ascending))
+
+direction_reader : (S : Token → Type 0) → ((t : Token) → DirectionEnds t → S t) → (d : ℕ) → Reader S (λ _ _. IsDirection) d direction_at
+unfolding direction_at same_symbol
+direction_reader S inS d =
+    same_reader S (Or AscOr (Then (λ _ _. Is (is symbol.Desc)) (λ _ _ _ next. next true))) (λ _ _. IsDirection) d _
+    (record {
+      to = λ d g next ts h. elim h [ inl o ↦ elim o [ inl a ↦ inl a | inr b ↦ inr (inl b) ] | inr c ↦ inr (inr c) ];
+      from = λ d g next ts h. elim h [ inl a ↦ inl (inl a) | inr o ↦ elim o [ inl b ↦ inl (inr b) | inr c ↦ inr c ] ];
+    })
+    (behind_reader S (is symbol.Desc) (sample symbol.Desc) stands_desc (λ _ _ next. next true) AscOr d (λ r. Ok (true, r)) _ (pure_reader S d true)
+    (optional_reader S (is symbol.Asc) (sample symbol.Asc) stands_asc Ascending false d (λ r. Ok (false, r)) (pure_reader S d false) (λ t e. inS t (inl e)))
+    (λ ts e. or_other S Ascending (Then (λ _ _. Is (is symbol.Asc)) (λ _. Ascending)) ts (none_stops S (is symbol.Desc) false (λ t e. inS t (inr (inl e))) ts e)
+    (not_other S (Then (λ _ _. Is (is symbol.Asc)) (λ _. Ascending)) (λ t. is symbol.Asc t ≡ true) (is symbol.Desc) asc_begins (λ t e a. two_symbols symbol.Desc symbol.Asc t refl e a) ts e)))
+  where
+    asc_begins : Begins (Then (λ _ _. Is (is symbol.Asc)) (λ _. Ascending)) (λ t. is symbol.Asc t ≡ true)
+    asc_begins d g next [] h = h
+    asc_begins d g next (t ∷ ts) h = h.0
+
+abbrev KeyEnds : Token → Type 0
+KeyEnds = AnyOf (symbol.Point ∷ symbol.Open ∷ symbol.Asc ∷ symbol.Desc ∷ [])
+
+direction_not : (S : Token → Type 0) (next : Next Bool) (t : Token) (ts : List Token) → ExprEnds t → (next false (t ∷ ts) → ⊥) → IsDirection next (t ∷ ts) → ⊥
+unfolding same_symbol
+direction_not S next t ts s none h =
+    elim h [ inl n ↦ none n | inr o ↦ elim o [ inl a ↦ apart symbol.Asc (symbol.Point ∷ symbol.Open ∷ []) refl t a.0 s | inr b ↦ apart symbol.Desc (symbol.Point ∷ symbol.Open ∷ []) refl t b.0 s ] ]
+
+key_reader : (d : ℕ) → Reader KeyEnds (λ _ _. IsKey) d key_at
+unfolding key_at same_symbol
+key_reader d =
+    then_reader KeyEnds ExprEnds (λ _ _. IsExpr) (λ e _ _ next. IsDirection (λ descending. next (record { expr = e; descending = descending }))) d expr_at _ (exprs d)
+    (λ e. map_reader KeyEnds (λ _ _. IsDirection) (λ descending. record { expr = e; descending = descending }) d direction_at (direction_reader KeyEnds (λ t s. inr (inr s)) d))
+    (λ a d' g next avoids t ts s h. direction_not KeyEnds (λ descending. next (record { expr = a; descending = descending })) t ts s
+    (λ n. avoids (record { expr = a; descending = false }) t ts (within (symbol.Point ∷ symbol.Open ∷ []) (symbol.Point ∷ symbol.Open ∷ symbol.Asc ∷ symbol.Desc ∷ []) refl t s) n) h)
+
+key_begins : Begins (λ _ _. IsKey) (λ t. is symbol.Name t ≡ true)
+key_begins d g next w h = expr_begins d g (λ e. IsDirection (λ descending. next (record { expr = e; descending = descending }))) w h
+
+key_look : (d : ℕ) → Peek KeyEnds (λ _ _. IsKey) d (token_at (is symbol.Name))
+key_look d = token_peek KeyEnds (λ _ _. IsKey) (is symbol.Name) d (none_other KeyEnds (λ _ _. IsKey) (λ t. is symbol.Name t ≡ true) (is symbol.Name) key_begins (λ t e. e)) (key_reader d).able
+    (λ t e. then_began {Q = λ e _ _ next. IsDirection (λ descending. next (record { expr = e; descending = descending }))}
+    (λ a. record { more = []; value = record { expr = a; descending = false }; ends = λ d' g next v le o h. inl h }) (expr_began t e d))
+
+-- [ ORDER BY key { "," key } ]
+abbrev OrderEnds : Token → Type 0
+OrderEnds = AnyOf (symbol.Order ∷ symbol.Comma ∷ symbol.Point ∷ symbol.Open ∷ symbol.Asc ∷ symbol.Desc ∷ [])
+
+orders_reader : (d : ℕ) → Reader OrderEnds (λ _ g. IsOrders g) d orders_at
+unfolding orders_at same_symbol
+orders_reader d =
+    optional_reader OrderEnds (is symbol.Order) (sample symbol.Order) stands_order (λ _ g next. Is (is symbol.By) (λ _. IsList g 64 IsKey (is symbol.Comma) next)) [] d (λ ts. token_at (is symbol.By) ts >>= λ by. list_at (is symbol.Comma) (token_at (is symbol.Name)) key_at 64 by.1)
+    (symbol_reader OrderEnds symbol.By stands_by _ d _ (λ _.
+    list_reader OrderEnds KeyEnds (λ _ _. IsKey) (is symbol.Comma) (sample symbol.Comma) stands_comma (token_at (is symbol.Name)) 64 d key_at (key_reader d) (key_look d)
+    (λ t e. inr (inl e)) (λ t s e. apart symbol.Comma (symbol.Point ∷ symbol.Open ∷ symbol.Asc ∷ symbol.Desc ∷ []) refl t e s) (λ t s. inr (inr s))))
+    (λ t e. inl e)
+
+-- the rest of a statement, part by part
+abbrev Ending : Select → Phrase Select
+Ending select _ _ next = IsOptional (is symbol.Semicolon) (λ _. Is (is symbol.End) (λ _. next select))
+
+abbrev Ordered : (List OrderItem → Select) → Phrase Select
+Ordered f d g next = IsOrders g (λ orders. Ending (f orders) d g next)
+
+abbrev Having : (Option Test → List OrderItem → Select) → Phrase Select
+Having f d g next = IsHaving d g (λ having. Ordered (f having) d g next)
+
+abbrev Grouped : (List ColumnName → Option Test → List OrderItem → Select) → Phrase Select
+Grouped f d g next = IsGroups g (λ groups. Having (f groups) d g next)
+
+abbrev Filtered : (Option Test → List ColumnName → Option Test → List OrderItem → Select) → Phrase Select
+Filtered f d g next = IsFilter d g (λ filter. Grouped (f filter) d g next)
+
+ending_begins : (s : Select) → Begins (Ending s) (AnyOf (symbol.Semicolon ∷ symbol.End ∷ []))
+ending_begins s d g next [] h = elim h [ inl e ↦ e | inr c ↦ c ]
+ending_begins s d g next (t ∷ ts) h = elim h [ inl e ↦ inr (inl e.0) | inr c ↦ inl c.0 ]
+
+ordered_begins : (f : List OrderItem → Select) → Begins (Ordered f) (AnyOf (symbol.Order ∷ symbol.Semicolon ∷ symbol.End ∷ []))
+ordered_begins f d g next [] h = elim h [ inl e ↦ ending_begins (f []) d g next [] e | inr c ↦ c ]
+ordered_begins f d g next (t ∷ ts) h = elim h [ inl e ↦ inr (ending_begins (f []) d g next (t ∷ ts) e) | inr c ↦ inl c.0 ]
+
+having_begins : (f : Option Test → List OrderItem → Select) → Begins (Having f) (AnyOf (symbol.Having ∷ symbol.Order ∷ symbol.Semicolon ∷ symbol.End ∷ []))
+having_begins f d g next [] h = elim h [ inl e ↦ ordered_begins (f None) d g next [] e | inr c ↦ c ]
+having_begins f d g next (t ∷ ts) h = elim h [ inl e ↦ inr (ordered_begins (f None) d g next (t ∷ ts) e) | inr c ↦ inl c.0 ]
+
+grouped_begins : (f : List ColumnName → Option Test → List OrderItem → Select) → Begins (Grouped f) (AnyOf (symbol.Group ∷ symbol.Having ∷ symbol.Order ∷ symbol.Semicolon ∷ symbol.End ∷ []))
+grouped_begins f d g next [] h = elim h [ inl e ↦ having_begins (f []) d g next [] e | inr c ↦ c ]
+grouped_begins f d g next (t ∷ ts) h = elim h [ inl e ↦ inr (having_begins (f []) d g next (t ∷ ts) e) | inr c ↦ inl c.0 ]
+
+filtered_begins : (f : Option Test → List ColumnName → Option Test → List OrderItem → Select)
+    → Begins (Filtered f) (AnyOf (symbol.Where ∷ symbol.Group ∷ symbol.Having ∷ symbol.Order ∷ symbol.Semicolon ∷ symbol.End ∷ []))
+filtered_begins f d g next [] h = elim h [ inl e ↦ grouped_begins (f None) d g next [] e | inr c ↦ c ]
+filtered_begins f d g next (t ∷ ts) h = elim h [ inl e ↦ inr (grouped_begins (f None) d g next (t ∷ ts) e) | inr c ↦ inl c.0 ]
+
+-- and their readings
+abbrev ending_at : Select → List Token → Read Select
+ending_at s ts = let semicolon = optional_at (is symbol.Semicolon) ts in token_at (is symbol.End) semicolon.1 >>= λ end. Ok (s, end.1)
+
+abbrev ordered_at : (List OrderItem → Select) → List Token → Read Select
+ordered_at f ts = orders_at ts >>= λ orders. ending_at (f orders.0) orders.1
+
+abbrev having_and : ℕ → (Option Test → List OrderItem → Select) → List Token → Read Select
+having_and d f ts = having_at d ts >>= λ having. ordered_at (f having.0) having.1
+
+abbrev grouped_at : ℕ → (List ColumnName → Option Test → List OrderItem → Select) → List Token → Read Select
+grouped_at d f ts = groups_at ts >>= λ groups. having_and d (f groups.0) groups.1
+
+abbrev filtered_at : ℕ → (Option Test → List ColumnName → Option Test → List OrderItem → Select) → List Token → Read Select
+filtered_at d f ts = where_at d ts >>= λ filter. grouped_at d (f filter.0) filter.1
+
+ending_reader : (s : Select) (d : ℕ) → Reader Nothing (Ending s) d (ending_at s)
+unfolding same_symbol
+ending_reader s d =
+    then_reader Nothing (AnyOf (symbol.Semicolon ∷ [])) (λ _ _. IsOptional (is symbol.Semicolon)) (λ _ _ _ next. Is (is symbol.End) (λ _. next s)) d (λ ts. Ok (optional_at (is symbol.Semicolon) ts)) (λ semicolon. token_at (is symbol.End) semicolon.1 >>= λ end. Ok (s, end.1))
+    (maybe_reader (AnyOf (symbol.Semicolon ∷ [])) (is symbol.Semicolon) (sample symbol.Semicolon) stands_semicolon d (λ t e. inl e)) (λ _. symbol_reader Nothing symbol.End stands_end _ d _ (λ _. pure_reader Nothing d s))
+    (λ a d' g next avoids t ts k h. apart symbol.End (symbol.Semicolon ∷ []) refl t h.0 k)
+
+ordered_reader : (f : List OrderItem → Select) (d : ℕ) → Reader Nothing (Ordered f) d (ordered_at f)
+unfolding same_symbol
+ordered_reader f d =
+    then_reader Nothing OrderEnds (λ _ g. IsOrders g) (λ orders. Ending (f orders)) d orders_at (λ orders. ending_at (f orders.0) orders.1) (orders_reader d) (λ orders. ending_reader (f orders) d)
+    (λ a d' g next avoids t ts k h. disjoint (symbol.Order ∷ symbol.Comma ∷ symbol.Point ∷ symbol.Open ∷ symbol.Asc ∷ symbol.Desc ∷ []) (symbol.Semicolon ∷ symbol.End ∷ []) refl t k (ending_begins (f a) d' g next (t ∷ ts) h))
+
+having_and_reader : (f : Option Test → List OrderItem → Select) (d : ℕ) → Reader Nothing (Having f) d (having_and d f)
+unfolding same_symbol
+having_and_reader f d =
+    then_reader Nothing HavingEnds IsHaving (λ having. Ordered (f having)) d (having_at d) (λ having. ordered_at (f having.0) having.1) (having_reader d) (λ having. ordered_reader (f having) d)
+    (λ a d' g next avoids t ts k h. disjoint (symbol.Having ∷ symbol.Point ∷ symbol.Open ∷ symbol.And ∷ symbol.Or ∷ []) (symbol.Order ∷ symbol.Semicolon ∷ symbol.End ∷ []) refl t k (ordered_begins (f a) d' g next (t ∷ ts) h))
+
+grouped_reader : (f : List ColumnName → Option Test → List OrderItem → Select) (d : ℕ) → Reader Nothing (Grouped f) d (grouped_at d f)
+unfolding same_symbol
+grouped_reader f d =
+    then_reader Nothing GroupEnds (λ _ g. IsGroups g) (λ groups. Having (f groups)) d groups_at (λ groups. having_and d (f groups.0) groups.1) (groups_reader d) (λ groups. having_and_reader (f groups) d)
+    (λ a d' g next avoids t ts k h. disjoint (symbol.Group ∷ symbol.Comma ∷ symbol.Point ∷ []) (symbol.Having ∷ symbol.Order ∷ symbol.Semicolon ∷ symbol.End ∷ []) refl t k (having_begins (f a) d' g next (t ∷ ts) h))
+
+filtered_reader : (f : Option Test → List ColumnName → Option Test → List OrderItem → Select) (d : ℕ) → Reader Nothing (Filtered f) d (filtered_at d f)
+unfolding same_symbol
+filtered_reader f d =
+    then_reader Nothing FilterEnds IsFilter (λ filter. Grouped (f filter)) d (where_at d) (λ filter. grouped_at d (f filter.0) filter.1) (filter_reader d) (λ filter. grouped_reader (f filter) d)
+    (λ a d' g next avoids t ts k h. disjoint (symbol.Where ∷ symbol.Point ∷ symbol.Open ∷ symbol.And ∷ symbol.Or ∷ []) (symbol.Group ∷ symbol.Having ∷ symbol.Order ∷ symbol.Semicolon ∷ symbol.End ∷ []) refl t k (grouped_begins (f a) d' g next (t ∷ ts) h))
+
+items_begin : Begins (λ _ g. IsItems g) (AnyOf (symbol.Star ∷ symbol.Name ∷ []))
+items_begin d g next w h = elim h [
+  | inl s ↦ widened (λ t. is symbol.Star t ≡ true) (AnyOf (symbol.Star ∷ symbol.Name ∷ [])) (λ t e. inl e) w (stars_begin d g next w s)
+  | inr l ↦ widened (λ t. is symbol.Name t ≡ true) (AnyOf (symbol.Star ∷ symbol.Name ∷ [])) (λ t e. inr (inl e)) w (listed_begins d g next w l)
+]
+
+-- select = SELECT [ DISTINCT ] items FROM sources ..
+abbrev made : Option Token → Items → List Source → Option Test → List ColumnName → Option Test → List OrderItem → Select
+made distinct items sources filter groups having orders = record { distinct = is_some distinct; items = items; sources = sources; filter = filter; groups = groups; having = having; orders = orders }
+
+abbrev after_items : Option Token → Items → Phrase Select
+after_items distinct items d g next = Is (is symbol.From) (λ _. IsSources d g (λ sources. Filtered (made distinct items sources) d g next))
+
+abbrev after_items_at : ℕ → Option Token → Items × List Token → Read Select
+after_items_at d distinct items = token_at (is symbol.From) items.1 >>= λ from. sources_at d from.1 >>= λ sources. filtered_at d (made distinct items.0 sources.0) sources.1
+
+abbrev after_distinct : Option Token → Phrase Select
+after_distinct distinct d g next = IsItems g (λ items. after_items distinct items d g next)
+
+abbrev after_distinct_at : ℕ → Option Token × List Token → Read Select
+after_distinct_at d distinct = items_at distinct.1 >>= λ items. after_items_at d distinct.0 items
+
+pub select_reader : (d : ℕ) → Reader Nothing IsSelect d (select_at d)
+unfolding select_at same_symbol
+select_reader d =
+    symbol_reader Nothing symbol.Select stands_select _ d _ (λ _.
+    then_reader Nothing (AnyOf (symbol.Distinct ∷ [])) (λ _ _. IsOptional (is symbol.Distinct)) after_distinct d (λ ts. Ok (optional_at (is symbol.Distinct) ts)) (after_distinct_at d)
+    (maybe_reader (AnyOf (symbol.Distinct ∷ [])) (is symbol.Distinct) (sample symbol.Distinct) stands_distinct d (λ t e. inl e))
+    (λ distinct. then_reader Nothing ItemsEnds (λ _ g. IsItems g) (after_items distinct) d items_at (after_items_at d distinct) (items_reader d)
+    (λ items. symbol_reader Nothing symbol.From stands_from _ d _ (λ _.
+    then_reader Nothing SourcesEnds IsSources (λ sources. Filtered (made distinct items sources)) d (sources_at d) (λ sources. filtered_at d (made distinct items sources.0) sources.1) (sources_reader d) (λ sources. filtered_reader (made distinct items sources) d)
+    (λ a d' g next avoids t ts k h. disjoint sources_ends (symbol.Where ∷ symbol.Group ∷ symbol.Having ∷ symbol.Order ∷ symbol.Semicolon ∷ symbol.End ∷ []) refl t k (filtered_begins (made distinct items a) d' g next (t ∷ ts) h))))
+    (λ a d' g next avoids t ts k h. apart symbol.From (symbol.Point ∷ symbol.Open ∷ symbol.Name ∷ symbol.As ∷ symbol.Comma ∷ []) refl t h.0 k))
+    (λ a d' g next avoids t ts k h. disjoint (symbol.Distinct ∷ []) (symbol.Star ∷ symbol.Name ∷ []) refl t k (items_begin d' g (λ items. after_items a items d' g next) (t ∷ ts) h)))
