@@ -41,15 +41,15 @@ lines_fit bytes column (row ∷ rows) lines =
 
 pub table_fits : (schema bytes column : List ℕ) (decl : TableDecl) (rows : Rows) → IsSchema schema decl → decl.columns ≡ int_column column ∷ [] → IsTable bytes column rows → IsRelation (record { decl = decl; rows = rows })
 table_fits schema bytes column decl rows s e t =
-  let no_key : decl.key ≡ None = ap (λ (d : TableDecl). d.key) s.declared in
-  let no_order : decl.order ≡ None = ap (λ (d : TableDecl). d.order) s.declared in
-  record {
-    narrow = rw e (lit≤ tt);
-    scales = All-from_recursion HasScale decl.columns (rw e (tt, tt));
-    few = t.few;
-    fit = All-from_recursion (FitsColumns decl.columns) rows (rw e (lines_fit t.body column rows t.lines));
-    key_named = rw no_key tt;
-    order_named = rw no_order tt;
-    keyed = rw no_key tt;
-    ordered = rw no_order tt;
-  }
+    let no_key : decl.key ≡ None = ap (λ (d : TableDecl). d.key) s.declared in
+    let no_order : decl.order ≡ None = ap (λ (d : TableDecl). d.order) s.declared in
+    record {
+      narrow = rw e (lit≤ tt);
+      scales = All-from_recursion HasScale decl.columns (rw e (tt, tt));
+      few = t.few;
+      fit = All-from_recursion (FitsColumns decl.columns) rows (rw e (lines_fit t.body column rows t.lines));
+      key_named = rw no_key tt;
+      order_named = rw no_order tt;
+      keyed = rw no_key tt;
+      ordered = rw no_order tt;
+    }

@@ -7,13 +7,17 @@ pub mod expressions;
 pub mod fault;
 pub mod lists;
 pub mod numbers;
+pub mod numerals;
+pub mod printing;
 pub mod statement;
 pub mod terminals;
 #[cfg(test)]
 mod tests;
 pub mod tree;
+pub mod words;
 
 pub use fault::SynBad;
+pub use printing::print;
 pub use statement::parse;
 pub use tree::{
     Atom, ColumnName, ColumnNames, Comparison, Expr, Func, Item, Items, Literal, Literals,
