@@ -1,6 +1,6 @@
 use crate::printing::print;
 use crate::statement::parse;
-use crate::tree::{Items, Test};
+use crate::tree::{Items, Select, Test};
 use pm_lexer::lex;
 use pm_values::Txt;
 use std::alloc::{AllocError, Global};
@@ -100,16 +100,16 @@ fn lists_and_depth_have_limits(rt: HostRuntime) -> Result<(), Fail> {
     Ok(())
 }
 
+// The statement that a text is.
+fn reading(alloc: Global, text: &Txt) -> Option<Select> {
+    let tokens = lex(alloc, text).ok()?;
+    parse(alloc, &tokens).ok()
+}
+
 // The canonical text of a query.
-fn canonical(alloc: Global, query: &str) -> Result<Option<Txt>, AllocError> {
-    let text = Txt::new(alloc, query)?;
-    match lex(alloc, &text) {
-        Err(_) => Ok(None),
-        Ok(tokens) => match parse(alloc, &tokens) {
-            Err(_) => Ok(None),
-            Ok(select) => Ok(Some(print(alloc, &select)?)),
-        },
-    }
+fn canonical(alloc: Global, query: &Txt) -> Option<Txt> {
+    let select = reading(alloc, query)?;
+    print(alloc, &select).ok()
 }
 
 #[test]
@@ -129,9 +129,10 @@ fn canonical_text_is_its_own(rt: HostRuntime) -> Result<(), Fail> {
         ),
     ];
     for (query, want) in table {
-        let text = canonical(rt.alloc(), query)?.ok_or("no reading")?;
+        let query = Txt::new(rt.alloc(), query)?;
+        let text = canonical(rt.alloc(), &query).ok_or("no reading")?;
         assert_eq!(rt; text.as_str(), want);
-        let again = canonical(rt.alloc(), text.as_str())?.ok_or("no reading")?;
+        let again = canonical(rt.alloc(), &text).ok_or("no reading")?;
         assert_eq!(rt; again.as_str(), want);
     }
     Ok(())
