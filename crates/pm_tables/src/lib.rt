@@ -6,12 +6,14 @@
 mod fault;
 mod field;
 mod keys;
+mod loading;
 mod reading;
 mod record_list;
 mod table;
 mod typing;
 
 pub use fault::DataBad;
+pub use loading::{calls_once, load};
 pub use reading::records;
 pub use record_list::Records;
 pub use table::finish;
