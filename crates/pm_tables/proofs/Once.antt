@@ -1,12 +1,12 @@
 -- bytes call for one answer
-use Rattle.std.proofs.Common.{◌≡◌, ◌≢◌, ◌∙◌, ◌≤◌, ◌<◌, ◌+◌, ◌⊎◌, ℕ, zero, suc, Option, Some, None, List, [], ◌∷◌, length, take, refl, sym, ap, subst, arith, inl, inr, slice_get}
+use Rattle.std.proofs.Common.{◌≡◌, ◌≢◌, ◌∙◌, ◌≤◌, ◌<◌, ◌+◌, ◌⊎◌, ℕ, zero, suc, Option, Some, List, [], ◌∷◌, length, take, refl, sym, ap, subst, arith, inl, inr, slice_get}
 use Rattle.std.proofs.lemmas.Bool.{cases_order}
 use Rattle.std.proofs.lemmas.Str.{utf8_valid_len-IsValidUpTo}
 use Rattle.std.specs.Prelude.{IsUtf8}
 use Rattle.std.specs.Str.{IsValidUpTo}
 use Rattle.pm_values.specs.declared.value.Value.{Value}
 use Rattle.pm_values.specs.declared.table.ColumnDecl.{ColumnDecl}
-use Rattle.pm_values.specs.declared.table.TableDecl.{TableDecl}
+use Rattle.pm_values.specs.Table.{Declaration}
 use Rattle.pm_values.specs.Order.{KeyHolds, IsKey, Ascends, OrderHolds}
 use Rattle.pm_tables.specs.declared.fault.DataBad.{DataBad}
 use Rattle.pm_tables.specs.declared.fault.DataBad.TheVariants as bad
@@ -120,13 +120,13 @@ falls_once columns rows i j a b = elim (cases_order i j) [
   | inr other ↦ elim other [ inl low ↦ absurd (b.first i low a.falls) | inr low ↦ absurd (a.first j low b.falls) ]
 ]
 
-abbrev IsRepeat : TableDecl → List (List Value) → DataBad → Type 0
+abbrev IsRepeat : Declaration → List (List Value) → DataBad → Type 0
 IsRepeat decl rows e = (columns : List ℕ) × (decl.key ≡ Some columns) × (i : ℕ) × (j : ℕ) × (e ≡ bad.DoubleKey (i + 1) (j + 1)) × RepeatsFirst columns rows i j
 
-abbrev IsFall : TableDecl → List (List Value) → DataBad → Type 0
+abbrev IsFall : Declaration → List (List Value) → DataBad → Type 0
 IsFall decl rows e = KeyHolds decl.key rows × (columns : List ℕ) × (decl.order ≡ Some columns) × (i : ℕ) × (e ≡ bad.OutOfOrder (i + 2)) × FallsFirst columns rows i
 
-table_is : (decl : TableDecl) (rows : List (List Value)) (e : DataBad) → e ≢ bad.Memory → FaultsTable decl rows e → IsRepeat decl rows e ⊎ IsFall decl rows e
+table_is : (decl : Declaration) (rows : List (List Value)) (e : DataBad) → e ≢ bad.Memory → FaultsTable decl rows e → IsRepeat decl rows e ⊎ IsFall decl rows e
 table_is decl rows (bad.DoubleKey a b) ne h = inl (h.0, h.1, h.2, h.3, ap (λ z. bad.DoubleKey z b) h.4 ∙ ap (bad.DoubleKey (h.2 + 1)) h.5, h.6)
 table_is decl rows (bad.OutOfOrder r) ne h = inr (h.0, h.1, h.2, h.3, ap bad.OutOfOrder h.4, h.5)
 table_is decl rows bad.Memory ne h = absurd (ne refl)
@@ -141,63 +141,63 @@ table_is decl rows (bad.Field at column) ne h = absurd h
 some_once : {A : Type 0} (o : Option A) (x y : A) → o ≡ Some x → o ≡ Some y → x ≡ y
 some_once o x y e f = let both = sym e ∙ f in cc both
 
-key_repeats : (decl : TableDecl) (rows : List (List Value)) (e : DataBad) → KeyHolds decl.key rows → IsRepeat decl rows e → ⊥
+key_repeats : (decl : Declaration) (rows : List (List Value)) (e : DataBad) → KeyHolds decl.key rows → IsRepeat decl rows e → ⊥
 key_repeats decl rows e holds h =
     let key : IsKey h.0 rows = rw h.1 at holds in
     key h.2 h.3 h.5.order h.5.within h.5.same
 
-order_falls : (decl : TableDecl) (rows : List (List Value)) (e : DataBad) → OrderHolds decl.order rows → IsFall decl rows e → ⊥
+order_falls : (decl : Declaration) (rows : List (List Value)) (e : DataBad) → OrderHolds decl.order rows → IsFall decl rows e → ⊥
 order_falls decl rows e holds h =
     let ascends : Ascends h.1 rows = rw h.2 at holds in
     ascends h.3 h.5.within h.5.falls
 
-repeat_once : (decl : TableDecl) (rows : List (List Value)) (e f : DataBad) → IsRepeat decl rows e → IsRepeat decl rows f → e ≡ f
+repeat_once : (decl : Declaration) (rows : List (List Value)) (e f : DataBad) → IsRepeat decl rows e → IsRepeat decl rows f → e ≡ f
 repeat_once decl rows e f h k =
     let columns = some_once decl.key h.0 k.0 h.1 k.1 in
     let same = repeats_once k.0 rows h.2 h.3 k.2 k.3 (subst (λ z. RepeatsFirst z rows h.2 h.3) columns h.5) k.5 in
     h.4 ∙ ap (λ z. bad.DoubleKey (z + 1) (h.3 + 1)) same.0 ∙ ap (λ z. bad.DoubleKey (k.2 + 1) (z + 1)) same.1 ∙ sym k.4
 
-fall_once : (decl : TableDecl) (rows : List (List Value)) (e f : DataBad) → IsFall decl rows e → IsFall decl rows f → e ≡ f
+fall_once : (decl : Declaration) (rows : List (List Value)) (e f : DataBad) → IsFall decl rows e → IsFall decl rows f → e ≡ f
 fall_once decl rows e f h k =
     let columns = some_once decl.order h.1 k.1 h.2 k.2 in
     let same = falls_once k.1 rows h.3 k.3 (subst (λ z. FallsFirst z rows h.3) columns h.5) k.5 in
     h.4 ∙ ap (λ z. bad.OutOfOrder (z + 2)) same ∙ sym k.4
 
-order_once : (decl : TableDecl) (rows : List (List Value)) (e f : DataBad) → e ≢ bad.Memory → f ≢ bad.Memory
+order_once : (decl : Declaration) (rows : List (List Value)) (e f : DataBad) → e ≢ bad.Memory → f ≢ bad.Memory
     → FaultsTable decl rows e → FaultsTable decl rows f → e ≡ f
 order_once decl rows e f ne nf h k = elim (table_is decl rows e ne h) [
   | inl a ↦ elim (table_is decl rows f nf k) [ inl b ↦ repeat_once decl rows e f a b | inr b ↦ absurd (key_repeats decl rows e b.0 a) ]
   | inr a ↦ elim (table_is decl rows f nf k) [ inl b ↦ absurd (key_repeats decl rows f a.0 b) | inr b ↦ fall_once decl rows e f a b ]
 ]
 
-table_not : (decl : TableDecl) (rows : List (List Value)) (e : DataBad) → e ≢ bad.Memory → KeyHolds decl.key rows → OrderHolds decl.order rows
+table_not : (decl : Declaration) (rows : List (List Value)) (e : DataBad) → e ≢ bad.Memory → KeyHolds decl.key rows → OrderHolds decl.order rows
     → FaultsTable decl rows e → ⊥
 table_not decl rows e ne keyed ordered h = elim (table_is decl rows e ne h) [ inl a ↦ key_repeats decl rows e keyed a | inr a ↦ order_falls decl rows e ordered a ]
 
 -- where the bytes write rows no record is at fault
-written_not : (decl : TableDecl) (bytes : List ℕ) (most : ℕ) (rows : List (List Value)) (e : DataBad) → e ≢ bad.Memory
+written_not : (decl : Declaration) (bytes : List ℕ) (most : ℕ) (rows : List (List Value)) (e : DataBad) → e ≢ bad.Memory
     → WritesTable decl bytes most rows → FaultsRecords decl bytes most e → ⊥
 written_not decl bytes most rows e ne h k =
     let same = list_once decl.columns bytes most h.list k.list h.listed k.listed in
     rows_fault decl.columns k.list rows (length k.list) e ne (omega arith) (rw same at h.typed) k.first
 
-records_once : (decl : TableDecl) (bytes : List ℕ) (most : ℕ) (e f : DataBad) → e ≢ bad.Memory → f ≢ bad.Memory
+records_once : (decl : Declaration) (bytes : List ℕ) (most : ℕ) (e f : DataBad) → e ≢ bad.Memory → f ≢ bad.Memory
     → FaultsRecords decl bytes most e → FaultsRecords decl bytes most f → e ≡ f
 records_once decl bytes most e f ne nf h k =
     let same = list_once decl.columns bytes most h.list k.list h.listed k.listed in
     first_once decl.columns k.list e f ne nf (rw same at h.first) k.first
 
-written_once : (decl : TableDecl) (bytes : List ℕ) (most : ℕ) (a b : List (List Value)) → WritesTable decl bytes most a → WritesTable decl bytes most b → a ≡ b
+written_once : (decl : Declaration) (bytes : List ℕ) (most : ℕ) (a b : List (List Value)) → WritesTable decl bytes most a → WritesTable decl bytes most b → a ≡ b
 written_once decl bytes most a b h k =
     let same = list_once decl.columns bytes most h.list k.list h.listed k.listed in
     rows_once decl.columns k.list a b (rw same at h.typed) k.typed
 
 -- bytes are one table
-pub table_once : (decl : TableDecl) (bytes : List ℕ) (most : ℕ) (a b : List (List Value)) → IsTable decl bytes most a → IsTable decl bytes most b → a ≡ b
+pub table_once : (decl : Declaration) (bytes : List ℕ) (most : ℕ) (a b : List (List Value)) → IsTable decl bytes most a → IsTable decl bytes most b → a ≡ b
 table_once decl bytes most a b h k = written_once decl bytes most a b h.written k.written
 
 -- a table has no fault
-pub table_faults : (decl : TableDecl) (bytes : List ℕ) (most : ℕ) (rows : List (List Value)) (e : DataBad) → IsTable decl bytes most rows → Faults decl bytes most e → ⊥
+pub table_faults : (decl : Declaration) (bytes : List ℕ) (most : ℕ) (rows : List (List Value)) (e : DataBad) → IsTable decl bytes most rows → Faults decl bytes most e → ⊥
 table_faults decl bytes most rows e h k = elim k.1 [
   | inl a ↦ file_not decl.columns bytes most h.written.list e k.0 h.written.listed a
   | inr other ↦ elim other [
@@ -208,16 +208,16 @@ table_faults decl bytes most rows e h k = elim k.1 [
   ]
 ]
 
-abbrev AnyFault : TableDecl → List ℕ → ℕ → DataBad → Type 0
+abbrev AnyFault : Declaration → List ℕ → ℕ → DataBad → Type 0
 AnyFault decl bytes most e = FaultsFile decl.columns bytes most e ⊎ FaultsRecords decl bytes most e ⊎ FaultsRows decl bytes most e
 
-rows_fault_once : (decl : TableDecl) (bytes : List ℕ) (most : ℕ) (e f : DataBad) → e ≢ bad.Memory → f ≢ bad.Memory
+rows_fault_once : (decl : Declaration) (bytes : List ℕ) (most : ℕ) (e f : DataBad) → e ≢ bad.Memory → f ≢ bad.Memory
     → FaultsRows decl bytes most e → FaultsRows decl bytes most f → e ≡ f
 rows_fault_once decl bytes most e f ne nf h k =
     let same = written_once decl bytes most h.rows k.rows h.written k.written in
     order_once decl k.rows e f ne nf (rw same at h.first) k.first
 
-any_once : (decl : TableDecl) (bytes : List ℕ) (most : ℕ) (e f : DataBad) → e ≢ bad.Memory → f ≢ bad.Memory
+any_once : (decl : Declaration) (bytes : List ℕ) (most : ℕ) (e f : DataBad) → e ≢ bad.Memory → f ≢ bad.Memory
     → AnyFault decl bytes most e → AnyFault decl bytes most f → e ≡ f
 any_once decl bytes most e f ne nf (inl h) (inl k) = file_once decl.columns bytes most e f ne nf h k
 any_once decl bytes most e f ne nf (inl h) (inr (inl k)) = absurd (file_not decl.columns bytes most k.list e ne k.listed h)
@@ -230,11 +230,11 @@ any_once decl bytes most e f ne nf (inr (inr h)) (inr (inl k)) = absurd (written
 any_once decl bytes most e f ne nf (inr (inr h)) (inr (inr k)) = rows_fault_once decl bytes most e f ne nf h k
 
 -- bytes have one fault
-pub fault_once : (decl : TableDecl) (bytes : List ℕ) (most : ℕ) (e f : DataBad) → Faults decl bytes most e → Faults decl bytes most f → e ≡ f
+pub fault_once : (decl : Declaration) (bytes : List ℕ) (most : ℕ) (e f : DataBad) → Faults decl bytes most e → Faults decl bytes most f → e ≡ f
 fault_once decl bytes most e f h k = any_once decl bytes most e f h.0 k.0 h.1 k.1
 
 -- bytes call for one answer
-pub calls_once : (decl : TableDecl) (bytes : List ℕ) (most : ℕ) (a b : Answer) → CallsFor decl bytes most a → CallsFor decl bytes most b → a ≡ b
+pub calls_once : (decl : Declaration) (bytes : List ℕ) (most : ℕ) (a b : Answer) → CallsFor decl bytes most a → CallsFor decl bytes most b → a ≡ b
 calls_once decl bytes most (Rows a) (Rows b) h k = ap Rows (table_once decl bytes most a b h k)
 calls_once decl bytes most (Rows a) (Refused f) h k = absurd (table_faults decl bytes most a f h k)
 calls_once decl bytes most (Refused e) (Rows b) h k = absurd (table_faults decl bytes most b e k h)

@@ -1,5 +1,5 @@
 -- records write one list of rows, or have one first fault
-use Rattle.std.proofs.Common.{◌≡◌, ◌≢◌, ◌∙◌, ◌≤◌, ◌<◌, ◌+◌, ◌-◌, ◌⊎◌, ℕ, ℤ, zero, suc, List, [], ◌∷◌, length, get_or, take, refl, sym, ap, subst, arith, inl, inr, slice_range}
+use Rattle.std.proofs.Common.{◌≡◌, ◌≢◌, ◌∙◌, ◌≤◌, ◌<◌, ◌+◌, ◌-◌, ◌⊎◌, ℕ, zero, suc, List, [], ◌∷◌, length, get_or, take, refl, sym, ap, subst, arith, inl, inr, slice_range}
 use Rattle.std.proofs.lemmas.Bool.{cases_order}
 use Rattle.std.proofs.lemmas.List.{get_or-take, length-take-le}
 use Rattle.std.specs.Str.Parse.{signed_digits_value, without_leading_sign}
@@ -10,7 +10,7 @@ use Rattle.pm_values.specs.declared.value.Kind.TheVariants as kind
 use Rattle.pm_values.specs.declared.table.ColumnDecl.{ColumnDecl}
 use Rattle.pm_tables.specs.declared.fault.DataBad.{DataBad}
 use Rattle.pm_tables.specs.declared.fault.DataBad.TheVariants as bad
-use Rattle.pm_tables.specs.Field.{HasValue, IsEmptyValue, Writes, WritesScaled, point_of, with_sign_of}
+use Rattle.pm_tables.specs.Field.{HasValue, IsEmptyValue, Writes, point_of, with_sign_of}
 use Rattle.pm_tables.specs.Typing.{FaultsFirst, FaultsRecord, LacksFirst, WritesRow, WritesRows}
 use Rattle.pm_tables.proofs.Decimals.{scaled_once}
 

@@ -1,8 +1,6 @@
 ghost use Rattle.std.specs.Prelude.{◌≡◌, ◌≤◌, ◌⊎◌, ◌^◌, ℕ, List, All, IfErr, IfOk, MatchResult, length};
 ghost use Rattle.pm_values.specs.declared.value.Value.{Value};
-ghost use Rattle.pm_values.specs.declared.table.TableDecl.{TableDecl};
-ghost use Rattle.pm_values.specs.Order.{NamesColumns};
-ghost use Rattle.pm_values.specs.Table.{FitsColumns, HasScale};
+ghost use Rattle.pm_values.specs.Table.{Declaration, FitsColumns};
 ghost use Rattle.pm_tables.specs.declared.fault.DataBad.{DataBad};
 ghost use Rattle.pm_tables.specs.Loading.{Answer, CallsFor, Faults, FaultsRecords, IsTable, WritesTable};
 ghost use Rattle.pm_tables.specs.Reading.{FaultsFile};
@@ -20,11 +18,7 @@ use std::alloc::Global;
 /// the first record that writes no row, a KEY that repeats, a row below the one before it by ORDER.
 /// [`DataBad::TooLong`] is the caller's: no length is refused here.
 pub fn load(alloc: Global, decl: TableDecl, bytes: &[u8], most: u32) -> Result<Table, DataBad>
-    requires narrow { length decl.columns ≤ 64 }
-    requires scales { All HasScale decl.columns }
-    requires key { NamesColumns decl.key (length decl.columns) }
-    requires order { NamesColumns decl.order (length decl.columns) }
-    requires few { most ≤ 2 ^ 24 }
+    requires { most ≤ 2 ^ 24 }
     ensures loaded { IfOk result (λ table. (table.decl ≡ decl) × IsTable decl bytes.now most table.rows) }
     ensures refused { IfErr result (λ e. (e ≡ DataBad.Memory) ⊎ Faults decl bytes.now most e) }
     ensures table { (rows : List (List Value)) → IsTable decl bytes.now most rows
@@ -37,8 +31,6 @@ pub fn load(alloc: Global, decl: TableDecl, bytes: &[u8], most: u32) -> Result<T
 
 /// The rows that the records of a file write.
 fn typed(alloc: Global, decl: &TableDecl, bytes: &[u8], most: u32) -> Result<Rows, DataBad>
-    requires narrow { length decl.now.columns ≤ 64 }
-    requires scales { All HasScale decl.now.columns }
     ensures typed { IfOk result (WritesTable decl.now bytes.now most) }
     ensures fit { IfOk result (All (FitsColumns decl.now.columns)) }
     ensures few { IfOk result (λ rows. length rows ≤ most) }
@@ -50,6 +42,5 @@ fn typed(alloc: Global, decl: &TableDecl, bytes: &[u8], most: u32) -> Result<Row
 
 /// What bytes call for is called for once: one table, or one refusal.
 pub fn calls_once()
-    ensures { (decl : TableDecl) (bytes : List ℕ) (most : ℕ) (a b : Answer) → CallsFor decl bytes most a → CallsFor decl bytes most b → a ≡ b }
-{
-}
+    ensures { (decl : Declaration) (bytes : List ℕ) (most : ℕ) (a b : Answer) → CallsFor decl bytes most a → CallsFor decl bytes most b → a ≡ b }
+{}

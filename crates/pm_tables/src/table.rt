@@ -16,21 +16,17 @@ use std::collections::HashMap;
 /// Refused are a KEY that repeats ([`DataBad::DoubleKey`]), and else a row below the one before it by the ORDER
 /// columns ([`DataBad::OutOfOrder`]). The rows are dropped then.
 pub fn finish(alloc: Global, decl: TableDecl, rows: Rows) -> Result<Table, DataBad>
-    requires narrow { length decl.columns ≤ 64 }
-    requires scales { All HasScale decl.columns }
-    requires key { NamesColumns decl.key (length decl.columns) }
-    requires order { NamesColumns decl.order (length decl.columns) }
     requires few { length rows ≤ 2 ^ 24 }
     requires fit { All (FitsColumns decl.columns) rows }
     ensures table { IfOk result (λ table. table ≡ record { decl = decl; rows = rows }) }
     ensures refused { IfErr result (FaultsTable decl rows) }
 {
-    if let Some(columns) = &decl.key {
+    if let Some(columns) = decl.key() {
         if let Some((first, second)) = first_repeat(alloc, rows.as_slice(), columns.as_slice())? {
             return Err(DataBad::DoubleKey(first + 1, second + 1));
         }
     }
-    if let Some(columns) = &decl.order {
+    if let Some(columns) = decl.order() {
         if let Some(above) = first_fall(rows.as_slice(), columns.as_slice()) {
             return Err(DataBad::OutOfOrder(above + 2));
         }

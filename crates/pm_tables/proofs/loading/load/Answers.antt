@@ -1,5 +1,5 @@
 use Rattle.std.proofs.Common.{rules}
-use Rattle.pm_tables.proofs.Loads.{IsLoaded, fault_answered, loaded_of, table_answered}
+use Rattle.pm_tables.proofs.Loads.{fault_answered, loaded_of, table_answered}
 use Rattle.pm_tables.proofs.loading.load.Goals as goal
 
 pub returns-in_err-rows-clause-table : goal.returns-in_err-rows-clause-table
