@@ -6,3 +6,4 @@ pub mod HasRead
 pub mod Table
 pub mod Keys
 pub mod Loading
+pub mod Worked
