@@ -1,6 +1,5 @@
 -- worked values of fields
-use Rattle.std.specs.Prelude.{ℕ, List, [], negsuc, pos, Bool, true, false, codes}
-use Rattle.pm_values.specs.declared.value.Value.{Value}
+use Rattle.std.specs.Prelude.{[], negsuc, pos, Bool, true, false, codes}
 use Rattle.pm_values.specs.declared.value.Value.TheVariants as value
 use Rattle.pm_values.specs.declared.value.Kind.{Kind}
 use Rattle.pm_values.specs.declared.value.Kind.TheVariants as kind

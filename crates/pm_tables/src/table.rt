@@ -56,8 +56,8 @@ fn first_repeat(alloc: Global, rows: &[Row], columns: &[u32]) -> Result<Option<(
         (λ pair. (pair.0 < 2 ^ 24) × (pair.1 < 2 ^ 24) × RepeatsFirst columns.now rows.now pair.0 pair.1)) }
     ensures refused { IfErr result (λ e. e ≡ DataBad.Memory) }
 {
-    let mut latest: HashMap<u64, u32> = HashMap::new(alloc);
-    let mut earlier: Vec<Option<u32>> = Vec::new(alloc);
+    let mut latest: HashMap<u64, u32> = HashMap::with_capacity(alloc, rows.len())?;
+    let mut earlier: Vec<Option<u32>> = Vec::with_capacity(alloc, rows.len())?;
     for at in 0..rows.len() {
         let start = latest.insert(key_hash(&rows[at], columns), at as u32)?;
         if let Some(first) = find_same(rows, columns, at as u32, start, earlier.as_slice()) {
