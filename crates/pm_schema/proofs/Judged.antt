@@ -1,7 +1,7 @@
 -- What is answered of tables that were read.
 use Rattle.std.proofs.Common.{◌≡◌, ◌⊎◌, ℕ, List, Option, Some, None, Result, Ok, Err, MatchResult, IfOk, IsErrOf, refl, sym, ◌∙◌, ap, inl}
 use Rattle.pm_lexer.specs.declared.token.Token.{Token}
-use Rattle.pm_values.specs.declared.table.TableDecl.{TableDecl}
+use Rattle.pm_values.specs.Table.{Declaration}
 use Rattle.pm_schema.specs.declared.tree.TableText.{TableText}
 use Rattle.pm_schema.specs.declared.fault.SchemaBad.{SchemaBad}
 use Rattle.pm_schema.specs.declared.fault.SchemaBad.TheVariants as bad
@@ -15,7 +15,7 @@ use Rattle.pm_schema.specs.Rules.{first_breach}
 use Rattle.pm_schema.specs.Meaning.{declared, Declares, Breaks, refusal, refusal_by, Judges}
 use Rattle.pm_schema.proofs.Whole.{one_reading}
 
-pub judged_ok : (tokens : List Token) (tables : List TableText) (result : Result (List TableDecl) SchemaBad) → Reads tokens tables → Judges (first_breach tables) tables result → IfOk result (λ schema. Declares tokens schema)
+pub judged_ok : (tokens : List Token) (tables : List TableText) (result : Result (List Declaration) SchemaBad) → Reads tokens tables → Judges (first_breach tables) tables result → IfOk result (λ schema. Declares tokens schema)
 judged_ok tokens tables (Err e) r j = tt
 judged_ok tokens tables (Ok schema) r j = of (first_breach tables) refl j
   where
@@ -23,23 +23,23 @@ judged_ok tokens tables (Ok schema) r j = of (first_breach tables) refl j
     of None e j = (tables, r, e, j)
     of (Some b) e j = absurd j
 
-pub judged_only : (tokens : List Token) (tables : List TableText) (result : Result (List TableDecl) SchemaBad) → Reads tokens tables → Judges (first_breach tables) tables result
+pub judged_only : (tokens : List Token) (tables : List TableText) (result : Result (List Declaration) SchemaBad) → Reads tokens tables → Judges (first_breach tables) tables result
     → (others : List TableText) → Reads tokens others → first_breach others ≡ None → MatchResult result (λ schema. schema ≡ declared others) (λ e. e ≡ bad.Memory)
 judged_only tokens tables result r j others h none =
     let same : tables ≡ others = one_reading (keyed tokens) tables others r h in
     of result (rw none at (rw same at j))
   where
-    of : (result : Result (List TableDecl) SchemaBad) → Judges None others result → MatchResult result (λ schema. schema ≡ declared others) (λ e. e ≡ bad.Memory)
+    of : (result : Result (List Declaration) SchemaBad) → Judges None others result → MatchResult result (λ schema. schema ≡ declared others) (λ e. e ≡ bad.Memory)
     of (Ok schema) j = j
     of (Err e) j = j
 
-pub judged_broken : (tokens : List Token) (tables : List TableText) (result : Result (List TableDecl) SchemaBad) → Reads tokens tables → Judges (first_breach tables) tables result
+pub judged_broken : (tokens : List Token) (tables : List TableText) (result : Result (List Declaration) SchemaBad) → Reads tokens tables → Judges (first_breach tables) tables result
     → (others : List TableText) (breach : Breach) → Reads tokens others → first_breach others ≡ Some breach → IsErrOf result (refusal breach) ⊎ IsErrOf result bad.Memory
 judged_broken tokens tables result r j others breach h some =
     let same : tables ≡ others = one_reading (keyed tokens) tables others r h in
     inl (of result (rw some at (rw same at j)))
   where
-    of : (result : Result (List TableDecl) SchemaBad) → Judges (Some breach) others result → IsErrOf result (refusal breach)
+    of : (result : Result (List Declaration) SchemaBad) → Judges (Some breach) others result → IsErrOf result (refusal breach)
     of (Ok schema) j = absurd j
     of (Err e) j = ap Err j
 
@@ -67,7 +67,7 @@ memory_is_none rule.DoubleColumn p e = cc e
 memory_is_none rule.KeyColumn p e = cc e
 memory_is_none rule.NullKey p e = cc e
 
-pub judged_breaks : (tokens : List Token) (tables : List TableText) (result : Result (List TableDecl) SchemaBad) → Reads tokens tables → Judges (first_breach tables) tables result
+pub judged_breaks : (tokens : List Token) (tables : List TableText) (result : Result (List Declaration) SchemaBad) → Reads tokens tables → Judges (first_breach tables) tables result
     → (a : Rule) (p : ℕ) → IsErrOf result (refusal_by a p) → Breaks tokens a p
 judged_breaks tokens tables (Ok schema) r j a p is = absurd (cc is)
 judged_breaks tokens tables (Err e) r j a p i = of (first_breach tables) refl j
@@ -91,7 +91,7 @@ no_stop rule.DoubleColumn p s = s
 no_stop rule.KeyColumn p s = s
 no_stop rule.NullKey p s = s
 
-pub judged_kept : (tables : List TableText) (result : Result (List TableDecl) SchemaBad) → Judges (first_breach tables) tables result → (stop : SchemaBad) → Stopping stop → IsErrOf result stop → ⊥
+pub judged_kept : (tables : List TableText) (result : Result (List Declaration) SchemaBad) → Judges (first_breach tables) tables result → (stop : SchemaBad) → Stopping stop → IsErrOf result stop → ⊥
 judged_kept tables (Ok schema) j stop s is = cc is
 judged_kept tables (Err e) j stop s i = of (first_breach tables) j
   where

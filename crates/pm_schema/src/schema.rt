@@ -1,11 +1,11 @@
-ghost use Rattle.std.specs.Prelude.{◌≡◌, ◌⊎◌, ℕ, List, None, Some, MatchResult, IfOk, IsErrOf};
+ghost use Rattle.std.specs.Prelude.{◌≡◌, ◌⊎◌, ℕ, List, None, Some, All, MatchResult, IfOk, IsErrOf};
 ghost use Rattle.pm_schema.specs.declared.fault.SchemaBad.TheVariants as bad;
 ghost use Rattle.pm_schema.specs.declared.rules.Rule.TheVariants as rule;
 ghost use Rattle.pm_schema.specs.declared.rules.Breach.{Breach};
 ghost use Rattle.pm_schema.specs.declared.tree.TableText.{TableText};
 ghost use Rattle.pm_schema.specs.Answers.{Reads, ExpectedAt, TooManyAt};
 ghost use Rattle.pm_schema.specs.Rules.{first_breach};
-ghost use Rattle.pm_schema.specs.Meaning.{declared, Declares, Breaks, refusal, Judges};
+ghost use Rattle.pm_schema.specs.Meaning.{IsNarrow, declared, Declares, Breaks, refusal, Judges};
 
 use crate::declared::declared;
 use crate::fault::{ReadBad, SchemaBad};
@@ -32,7 +32,9 @@ fn refusal(breach: Breach) -> SchemaBad
 }
 
 // What the tables declare, where they keep the rules.
+#[tactic(auto, using(crate::proofs::Sound::sound_of))]
 fn judged(alloc: Global, tables: &[TableText]) -> Result<Schema, SchemaBad>
+    requires { All IsNarrow tables.now }
     ensures { Judges (first_breach tables.now) tables.now result }
 {
     match first_breach(tables) {

@@ -1,9 +1,13 @@
 use Rattle.pm_schema.specs.declared.fault.SchemaBad.TheVariants as bad
 use Rattle.pm_schema.specs.declared.rules.Rule.TheVariants as rule
 use Rattle.pm_schema.specs.Terminals.{keyed}
+use Rattle.pm_schema.proofs.Narrow.{reads_narrow}
 use Rattle.pm_schema.proofs.Whole.{one_reading}
 use Rattle.pm_schema.proofs.Judged.{judged_ok, judged_only, judged_broken, judged_breaks, judged_kept, expected_not_memory, too_many_not_memory}
 use Rattle.pm_schema.proofs.schema.read_schema.Goals as goal
+
+pub judged-requires : goal.judged-requires
+judged-requires c = rw c.as_slice.ensures (reads_narrow c.args.tokens.now c.in-Ok.tables c.in-Ok.ensures.ok)
 
 pub returns-in-Ok-clause-ok : goal.returns-in-Ok-clause-ok
 returns-in-Ok-clause-ok c = judged_ok c.args.tokens.now c.in-Ok.tables c.judged.result c.in-Ok.ensures.ok (rw c.as_slice.ensures at c.judged.ensures)
