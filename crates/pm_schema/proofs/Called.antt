@@ -10,8 +10,6 @@ use Rattle.pm_values.specs.declared.table.TableDecl.{TableDecl}
 use Rattle.pm_schema.specs.declared.tree.TableText.{TableText}
 use Rattle.pm_schema.specs.declared.fault.SchemaBad.{SchemaBad}
 use Rattle.pm_schema.specs.declared.fault.SchemaBad.TheVariants as bad
-use Rattle.pm_schema.specs.declared.fault.ReadBad.{ReadBad}
-use Rattle.pm_schema.specs.declared.fault.ReadBad.TheVariants as reading
 use Rattle.pm_schema.specs.declared.rules.Rule.{Rule}
 use Rattle.pm_schema.specs.declared.rules.Rule.TheVariants as rule
 use Rattle.pm_schema.specs.declared.rules.Breach.{Breach}
@@ -19,7 +17,7 @@ use Rattle.pm_schema.specs.Terminals.{keyed}
 use Rattle.pm_schema.specs.Reading.{schema_at}
 use Rattle.pm_schema.specs.Rules.{first_breach}
 use Rattle.pm_schema.specs.Answers.{SchemaPhrase, Reads}
-use Rattle.pm_schema.specs.Meaning.{declared, CallsFor, refusal, refusal_by, Judges}
+use Rattle.pm_schema.specs.Meaning.{declared, Declares, CallsFor, refusal, refusal_by, Judges}
 use Rattle.pm_schema.proofs.TableReaders.{schema_law}
 
 reading_law : (tokens : List Token) → Law Nothing SchemaPhrase 0 (keyed tokens) (schema_at (keyed tokens))
@@ -90,6 +88,9 @@ one_answer tokens a b x y =
     let (read, is, calls) = called_answer tokens a x in
     let (read', is', calls') = called_answer tokens b y in
     is ∙ ap answer_of (answers_same SchemaPhrase 0 (keyed tokens) (schema_at (keyed tokens)) (reading_law tokens) read read' calls calls') ∙ sym is'
+
+pub one_schema : (tokens : List Token) (a b : List TableDecl) → Declares tokens a → Declares tokens b → a ≡ b
+one_schema tokens a b x y = let same : Ok a ≡ Ok b = one_answer tokens (Ok a) (Ok b) x y in cc same
 
 -- what is answered
 abbrev pub Answers : List Token → Result (List TableDecl) SchemaBad → Type 0
