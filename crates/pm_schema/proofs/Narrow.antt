@@ -170,11 +170,17 @@ table_gives next ts h =
 nothing_gives : Gives IsNothing Any
 nothing_gives next ts h = (tt, ts, tt, h)
 
--- the tables of a schema are narrow
-pub reads_narrow : (tokens : List Token) (tables : List TableText) → Reads tokens tables → All IsNarrow tables
-reads_narrow tokens tables h =
+-- the tables of a schema are at most 64, and narrow
+reads_short : (tokens : List Token) (tables : List TableText) → Reads tokens tables → IsShort IsNarrow 64 tables
+reads_short tokens tables h =
     let end : List TableText → List Token → Type 0 = λ all. Is (is symbol.End) (λ _ rest. (all ≡ tables) × (rest ≡ [])) in
     let first = table_gives (λ first. IsFurther never 64 IsNothing (λ _. IsTable never) (first ∷ []) end) (keyed tokens) h in
     let all = further_gives 64 IsNothing (λ _. IsTable never) IsNarrow nothing_gives (λ _. table_gives) (first.0 ∷ []) (one_short IsNarrow 64 first.0 (omega arith) first.2) end first.1 first.3 in
     let last = is_gives _ _ all.1 all.3 in
-    rw (← last.3.0) all.2.each
+    rw (← last.3.0) all.2
+
+pub reads_narrow : (tokens : List Token) (tables : List TableText) → Reads tokens tables → All IsNarrow tables
+reads_narrow tokens tables h = (reads_short tokens tables h).each
+
+pub reads_few : (tokens : List Token) (tables : List TableText) → Reads tokens tables → length tables ≤ 64
+reads_few tokens tables h = (reads_short tokens tables h).count

@@ -12,7 +12,7 @@ use Rattle.pm_schema.specs.declared.fault.SchemaBad.TheVariants as bad
 use Rattle.pm_schema.specs.declared.rules.Rule.{Rule}
 use Rattle.pm_schema.specs.declared.rules.Rule.TheVariants as rule
 use Rattle.pm_schema.specs.declared.rules.Breach.{Breach}
-use Rattle.pm_schema.specs.Answers.{Reads}
+use Rattle.pm_schema.specs.Answers.{Reads, ExpectedAt, TooManyAt}
 use Rattle.pm_schema.specs.Rules.{first_breach}
 
 -- how many columns stand before the first of this name
@@ -59,6 +59,17 @@ Declares tokens schema = (tables : List TableText) × Reads tokens tables × (fi
 -- the tokens declare tables, and this is the first breach of a rule
 abbrev pub Breaks : List Token → Rule → ℕ → Type 0
 Breaks tokens rule p = (tables : List TableText) × Reads tokens tables × (first_breach tables ≡ Some (record { at = p; rule = rule }))
+
+-- the tokens call for this answer
+abbrev pub CallsFor : List Token → Result (List Declaration) SchemaBad → Type 0
+CallsFor tokens (Ok schema) = Declares tokens schema
+CallsFor tokens (Err (bad.Expected p)) = ExpectedAt tokens p
+CallsFor tokens (Err (bad.TooMany p)) = TooManyAt tokens p
+CallsFor tokens (Err (bad.DoubleTable p)) = Breaks tokens rule.DoubleTable p
+CallsFor tokens (Err (bad.DoubleColumn p)) = Breaks tokens rule.DoubleColumn p
+CallsFor tokens (Err (bad.KeyColumn p)) = Breaks tokens rule.KeyColumn p
+CallsFor tokens (Err (bad.NullKey p)) = Breaks tokens rule.NullKey p
+CallsFor tokens (Err bad.Memory) = ⊥
 
 abbrev pub refusal_by : Rule → ℕ → SchemaBad
 refusal_by rule.DoubleTable p = bad.DoubleTable p

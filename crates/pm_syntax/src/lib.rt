@@ -18,7 +18,7 @@ pub mod words;
 
 pub use fault::SynBad;
 pub use printing::print;
-pub use statement::parse;
+pub use statement::{answers_once, parse};
 pub use tree::{
     Atom, ColumnName, ColumnNames, Comparison, Expr, Func, Item, Items, Literal, Literals,
     OrderItem, OrderItems, PlacedName, Select, SelectItems, Source, Sources, Test, Tests,
