@@ -1,10 +1,10 @@
-ghost use Rattle.std.specs.Prelude.{◌≡◌, ◌⊎◌, List, Result, IsErrOf};
+ghost use Rattle.std.specs.Prelude.{◌≡◌, ◌≤◌, ◌⊎◌, List, length, Result, All, IfOk, IsErrOf};
 ghost use Rattle.pm_lexer.specs.declared.token.Token.{Token};
-ghost use Rattle.pm_values.specs.declared.table.TableDecl.{TableDecl};
+ghost use Rattle.pm_values.specs.Table.{Declaration};
 ghost use Rattle.pm_schema.specs.declared.fault.SchemaBad.{SchemaBad};
 ghost use Rattle.pm_schema.specs.declared.fault.SchemaBad.TheVariants as bad;
 ghost use Rattle.pm_schema.specs.Rules.{first_breach};
-ghost use Rattle.pm_schema.specs.Meaning.{CallsFor, refusal, Judges};
+ghost use Rattle.pm_schema.specs.Meaning.{IsNarrow, CallsFor, refusal, Judges};
 
 use crate::declared::declared;
 use crate::fault::{ReadBad, SchemaBad};
@@ -31,7 +31,9 @@ fn refusal(breach: Breach) -> SchemaBad
 }
 
 // What the tables declare, where they keep the rules.
+#[tactic(auto, using(crate::proofs::Sound::sound_of))]
 fn judged(alloc: Global, tables: &[TableText]) -> Result<Schema, SchemaBad>
+    requires { All IsNarrow tables.now }
     ensures { Judges (first_breach tables.now) tables.now result }
 {
     match first_breach(tables) {
@@ -48,8 +50,9 @@ fn judged(alloc: Global, tables: &[TableText]) -> Result<Schema, SchemaBad>
 /// column's name that stands twice, a name in KEY or ORDER that is no column or stands there twice, a nullable
 /// column in KEY.
 pub fn read_schema(alloc: Global, tokens: &Tokens) -> Result<Schema, SchemaBad>
+    ensures few { IfOk result (λ schema. length schema ≤ 64) }
     ensures answers { CallsFor tokens.now result ⊎ IsErrOf result bad.Memory }
-    ensures only { (answer : Result (List TableDecl) SchemaBad) → CallsFor tokens.now answer → (result ≡ answer) ⊎ IsErrOf result bad.Memory }
+    ensures only { (answer : Result (List Declaration) SchemaBad) → CallsFor tokens.now answer → (result ≡ answer) ⊎ IsErrOf result bad.Memory }
 {
     match read_tables(alloc, tokens) {
         Ok(tables) => judged(alloc, tables.as_slice()),
@@ -62,6 +65,7 @@ pub fn read_schema(alloc: Global, tokens: &Tokens) -> Result<Schema, SchemaBad>
 /// Tokens call for one answer of `read_schema`: for a schema or for one refusal at one place.
 #[tactic(auto, using(crate::proofs::Called::some_answer, crate::proofs::Called::one_answer))]
 pub fn answers_once()
-    ensures some { (tokens : List Token) → (answer : Result (List TableDecl) SchemaBad) × CallsFor tokens answer }
-    ensures one { (tokens : List Token) (a b : Result (List TableDecl) SchemaBad) → CallsFor tokens a → CallsFor tokens b → a ≡ b }
-{}
+    ensures some { (tokens : List Token) → (answer : Result (List Declaration) SchemaBad) × CallsFor tokens answer }
+    ensures one { (tokens : List Token) (a b : Result (List Declaration) SchemaBad) → CallsFor tokens a → CallsFor tokens b → a ≡ b }
+{
+}
