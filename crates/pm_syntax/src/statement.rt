@@ -241,7 +241,7 @@ pub fn parse(alloc: Global, tokens: &Tokens) -> Result<Select, SynBad>
 }
 
 /// Tokens call for one answer of `parse`: for a reading or for one refusal at one place.
-#[tactic(auto, using(crate::proofs::Called::some_answer, crate::proofs::Called::one_answer))]
+#[tactic(auto, using(crate::proofs::WholeReading::some_answer, crate::proofs::WholeReading::one_answer))]
 pub fn answers_once()
     ensures some { (tokens : List Token) → (answer : Result Select SynBad) × CallsFor tokens answer }
     ensures one { (tokens : List Token) (a b : Result Select SynBad) → CallsFor tokens a → CallsFor tokens b → a ≡ b }

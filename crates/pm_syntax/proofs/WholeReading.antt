@@ -11,7 +11,7 @@ use Rattle.pm_syntax.specs.declared.fault.SynBad.{SynBad}
 use Rattle.pm_syntax.specs.declared.fault.SynBad.TheVariants as bad
 use Rattle.pm_syntax.specs.Grammar.{IsSelect}
 use Rattle.pm_syntax.specs.Reading.{select_at, Gives}
-use Rattle.pm_syntax.specs.Statement.{Reads, CallsFor}
+use Rattle.pm_syntax.specs.Statement.{CallsFor}
 use Rattle.pm_syntax.proofs.SelectReaders.{select_reader}
 
 select_law : (tokens : List Token) → Law Nothing IsSelect 32 tokens (select_at 32 tokens)
@@ -51,23 +51,17 @@ one_answer tokens a b x y =
     let (read', is', calls') = called_answer tokens b y in
     is ∙ ap answer_of (answers_same IsSelect 32 tokens (select_at 32 tokens) (select_law tokens) read read' calls calls') ∙ sym is'
 
-pub one_reading : (tokens : List Token) (a b : Select) → Reads tokens a → Reads tokens b → a ≡ b
-one_reading tokens a b x y = let same : Ok a ≡ Ok b = one_answer tokens (Ok a) (Ok b) x y in cc same
-
--- what is answered
-abbrev pub Answers : List Token → Result Select SynBad → Type 0
-Answers tokens result = CallsFor tokens result ⊎ IsErrOf result bad.Memory
-
-pub only : (tokens : List Token) (result : Result Select SynBad) → Answers tokens result → (answer : Result Select SynBad) → CallsFor tokens answer → (result ≡ answer) ⊎ IsErrOf result bad.Memory
-only tokens result answers answer calls = elim answers [ inl called ↦ inl (one_answer tokens result answer called calls) | inr memory ↦ inr memory ]
-
 -- what gives what reading gives is right
-given_answers : (tokens : List Token) (result : Result Select SynBad) (read : Result Select Stop) → Gives (λ s. s) result read → Calls IsSelect 32 tokens read → Answers tokens result
-given_answers tokens (Ok select) read gives calls = inl (rw gives at calls)
-given_answers tokens (Err (bad.Expected p)) read gives calls = inl (rw gives at calls)
-given_answers tokens (Err (bad.TooDeep p)) read gives calls = inl (rw gives at calls)
-given_answers tokens (Err (bad.TooMany p)) read gives calls = inl (rw gives at calls)
-given_answers tokens (Err bad.Memory) read gives calls = inr refl
+given_calls : (tokens : List Token) (result : Result Select SynBad) (read : Result Select Stop) → Gives (λ s. s) result read → Calls IsSelect 32 tokens read → CallsFor tokens result ⊎ IsErrOf result bad.Memory
+given_calls tokens (Ok select) read gives calls = inl (rw gives at calls)
+given_calls tokens (Err (bad.Expected p)) read gives calls = inl (rw gives at calls)
+given_calls tokens (Err (bad.TooDeep p)) read gives calls = inl (rw gives at calls)
+given_calls tokens (Err (bad.TooMany p)) read gives calls = inl (rw gives at calls)
+given_calls tokens (Err bad.Memory) read gives calls = inr refl
 
-pub read_answers : (tokens : List Token) (result : Result Select SynBad) → Gives (λ s. s) result (whole (select_at 32 tokens)) → Answers tokens result
-read_answers tokens result gives = given_answers tokens result (whole (select_at 32 tokens)) gives (whole_calls tokens)
+pub parse_answers : (tokens : List Token) (result : Result Select SynBad) → Gives (λ s. s) result (whole (select_at 32 tokens)) → CallsFor tokens result ⊎ IsErrOf result bad.Memory
+parse_answers tokens result gives = given_calls tokens result (whole (select_at 32 tokens)) gives (whole_calls tokens)
+
+pub parse_only : (tokens : List Token) (result : Result Select SynBad) → Gives (λ s. s) result (whole (select_at 32 tokens)) → (answer : Result Select SynBad) → CallsFor tokens answer
+    → (result ≡ answer) ⊎ IsErrOf result bad.Memory
+parse_only tokens result gives answer calls = elim (parse_answers tokens result gives) [ inl called ↦ inl (one_answer tokens result answer called calls) | inr memory ↦ inr memory ]
