@@ -135,3 +135,18 @@ refusal-explains words held (refusal.Query fault) h = h
 refusal-explains words held (refusal.Table table name fault) h = (name, h)
 refusal-explains words held refusal.NotBuilt h = h
 refusal-explains words held refusal.NoMemory h = tt
+
+-- ---- whatever the bytes are
+
+pub told-always : {T : Type 0} (told : Option T) {P : T → Type 0} → ((held : T) → P held) → IfSome told P
+told-always None p = tt
+told-always (Some held) p = p held
+
+-- a run whose sink has no fault is done, or memory was wanted
+pub run-ends : (s : Status) (rose : Type 0) → (s ≡ status.Done) ⊎ ((s ≡ status.WriteFault) ⊎ (s ≡ status.NoMemory)) → (s ≡ status.WriteFault → rose) → (rose → ⊥) → (s ≡ status.Done) ⊎ (s ≡ status.NoMemory)
+run-ends s rose (inl done) unwritten quiet = inl done
+run-ends s rose (inr (inl fault)) unwritten quiet = absurd (quiet (unwritten fault))
+run-ends s rose (inr (inr memory)) unwritten quiet = inr memory
+
+pub no-refusal : (table : Relation) (r : Refusal) → (let x : Result Relation Refusal = Ok table in x) ≡ Err r → ⊥
+no-refusal table r e = cc

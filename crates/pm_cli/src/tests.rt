@@ -45,39 +45,101 @@ fn run<R: Threads>(
 }
 
 #[test]
-fn runs_and_refusals(rt: HostRuntime) -> Result<(), Fail> {
+fn texts_are_refused_at_their_places(rt: HostRuntime) -> Result<(), Fail> {
     let table = "a\n7\n8\n9\n";
-    let built = "! 11 notbuilt\n";
-    let cases = [
-        ([SCHEMA, QUERY, table], Status::Done, THREE),
+    let key = "TABLE t FROM 't.csv' (a INT, KEY (a));";
+    let twice = "TABLE t FROM 't.csv' (a INT, a TEXT);";
+    for (files, code, text) in [
+        ([SCHEMA, QUERY, table], 0, THREE),
+        (["", QUERY, table], 2, "! 2 expected 0\n"),
+        ([key, QUERY, table], 2, "! 2 nullkey 34\n"),
+        ([twice, QUERY, table], 2, "! 2 doublecolumn 29\n"),
+        (["TABLE t ?", QUERY, table], 2, "! 2 badchar 8\n"),
+        ([SCHEMA, "", table], 3, "! 3 expected 0\n"),
+        ([SCHEMA, "SELECT id FROM", table], 3, "! 3 expected 14\n"),
         (
-            [SCHEMA, QUERY, "a\n"],
-            Status::Done,
-            "N 1 project 2\nN 2 scan t t\nH a\nE rows=0 work=0\n",
-        ),
-        ([SCHEMA, "SELECT a FROM t", table], Status::NotBuilt, built),
-        ([SCHEMA, "SELECT * FROM u", table], Status::NotBuilt, built),
-        ([SCHEMA, QUERY, "b\n7\n"], Status::NotBuilt, built),
-        ([SCHEMA, QUERY, "a\n7"], Status::NotBuilt, built),
-        ([SCHEMA, QUERY, "a\n-\n"], Status::NotBuilt, built),
-        (
-            [SCHEMA, QUERY, "a\n1234567890123456789\n"],
-            Status::NotBuilt,
-            built,
+            [SCHEMA, "SELECT id FROM cust WHERE name = 'Bob", table],
+            3,
+            "! 3 opentext 33\n",
         ),
         (
-            ["TABLE t FROM 't.csv' (a INT);", QUERY, table],
-            Status::NotBuilt,
-            built,
+            [SCHEMA, "select id from cust limit 2", table],
+            3,
+            "! 3 expected 20\n",
         ),
-        (["", "", ""], Status::NotBuilt, built),
-    ];
-    for (files, status, text) in cases {
+        ([SCHEMA, "SELECT a FROM t", table], 11, "! 11 notbuilt\n"),
+        ([SCHEMA, "SELECT * FROM u", table], 11, "! 11 notbuilt\n"),
+        ([SCHEMA, "SELECT * FROM t x", table], 11, "! 11 notbuilt\n"),
+        ([SCHEMA, "SELECT * FROM t, t", table], 11, "! 11 notbuilt\n"),
+    ] {
         let (answer, out) = run(&rt, rt.alloc(), files, 0, 0)?;
-        assert_eq!(rt; answer, status);
+        assert_eq!(rt; answer.code(), code);
         assert_eq!(rt; out.bytes(), text.as_bytes());
     }
     Ok(())
+}
+
+const NUMBERS: &str = "TABLE n FROM 't.csv' (p NUM(2), q INT NOT NULL);";
+
+const KEYED: &str =
+    "TABLE c FROM 'c.csv' (x TEXT); TABLE n FROM 't.csv' (p INT NOT NULL, q INT, KEY (p));";
+
+const ORDERED: &str = "TABLE n FROM 't.csv' (p INT NOT NULL, q INT, ORDER (p));";
+
+#[test]
+fn tables_are_refused(rt: HostRuntime) -> Result<(), Fail> {
+    for (schema, table, text) in [
+        (NUMBERS, "", "! 5 noheader n\n"),
+        (NUMBERS, "p,r\n", "! 5 header n 2\n"),
+        (NUMBERS, "p,q\n1\n", "! 5 width n 1\n"),
+        (NUMBERS, "p,q\n12.505,1\n", "! 5 field n 1 1\n"),
+        (NUMBERS, "p,q\n1,9223372036854775808\n", "! 5 field n 1 2\n"),
+        (NUMBERS, "p,q\n1,\n", "! 5 field n 1 2\n"),
+        (KEYED, "p,q\n1,\n2,\n3,\n4,\n2,\n", "! 5 doublekey n 2 5\n"),
+        (ORDERED, "p,q\n1,\n3,\n2,\n", "! 5 outoforder n 3\n"),
+    ] {
+        let (answer, out) = run(&rt, rt.alloc(), [schema, "SELECT * FROM n;", table], 0, 0)?;
+        assert_eq!(rt; answer.code(), 5);
+        assert_eq!(rt; out.bytes(), text.as_bytes());
+    }
+    Ok(())
+}
+
+/// A table with a byte order mark, quoted fields and line ends of two bytes.
+const NOTES: &str = "\u{FEFF}id,body\r\n1,\"a, \"\"b\"\"\nc\"\r\n2,\r\n";
+
+#[test]
+fn typed_rows_are_written_as_csv(rt: HostRuntime) -> Result<(), Fail> {
+    let notes = "TABLE \"my notes\" FROM 't.csv' (id INT NOT NULL, body TEXT, KEY (id));";
+    for (schema, query, table, rows) in [
+        (
+            notes,
+            "select * from \"my notes\" -- all",
+            NOTES,
+            "R 1,\"a, \"\"b\"\"\nc\"\n",
+        ),
+        (
+            NUMBERS,
+            "SELECT * FROM n",
+            "p,q\n-0.050,+7\n,-0\n",
+            "R -0.05,7\n",
+        ),
+        (
+            NUMBERS,
+            "SELECT * FROM n",
+            "p,q\n-0.050,+7\n,-0\n",
+            "R ,0\n",
+        ),
+    ] {
+        let (answer, out) = run(&rt, rt.alloc(), [schema, query, table], 0, 0)?;
+        assert_eq!(rt; answer, Status::Done);
+        assert!(rt; contains(out.bytes(), rows.as_bytes()));
+    }
+    Ok(())
+}
+
+fn contains(text: &[u8], part: &[u8]) -> bool {
+    (0..text.len()).any(|at| text[at..].starts_with(part))
 }
 
 #[test]

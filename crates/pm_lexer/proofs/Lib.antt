@@ -5,6 +5,7 @@ pub mod Firsts
 pub mod Lists
 pub mod Phrases
 pub mod Quotation
+pub mod Doubling
 pub mod Readers
 pub mod Walk
 pub mod Repeats

@@ -2,6 +2,7 @@ pub mod Byte
 pub mod Head
 pub mod Pieces
 pub mod Symbol
+pub mod Quoting
 pub mod Tokens
 pub mod Language
 pub mod Reading

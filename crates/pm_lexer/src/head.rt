@@ -22,13 +22,13 @@ fn is_blank(b: u8) -> bool
     b == b' ' || b == b'\t' || b == b'\r' || b == b'\n'
 }
 
-fn is_letter(b: u8) -> bool
+pub(crate) fn is_letter(b: u8) -> bool
     ensures { result ≡ is_letter b }
 {
     b.is_ascii_alphabetic() || b == b'_'
 }
 
-fn is_word(b: u8) -> bool
+pub(crate) fn is_word(b: u8) -> bool
     ensures { result ≡ is_word b }
 {
     is_letter(b) || b.is_ascii_digit()

@@ -6,6 +6,7 @@
 pub mod fault;
 pub mod head;
 pub mod lexing;
+pub mod quoting;
 pub mod symbol;
 #[cfg(test)]
 mod tests;
@@ -15,6 +16,7 @@ pub mod unquote;
 pub use fault::LexBad;
 pub use head::decimals_len;
 pub use lexing::lex;
+pub use quoting::{put_name, put_quoted};
 pub use symbol::Symbol;
 pub use token::{Token, TokenKind, Tokens};
 pub use unquote::content;

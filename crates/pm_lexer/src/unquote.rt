@@ -56,7 +56,7 @@ fn single_quotes(alloc: Global, quote: u8, text: &str) -> Result<Txt, AllocError
 }
 
 // The place of the first quote.
-fn quote_at(quote: u8, bytes: &[u8]) -> Option<usize>
+pub(crate) fn quote_at(quote: u8, bytes: &[u8]) -> Option<usize>
     ensures { MatchOption result (NoneBefore quote bytes.now (length bytes.now)) (λ i. IsFirst quote bytes.now i) }
 {
     for (i, b) in bytes.iter().enumerate() {

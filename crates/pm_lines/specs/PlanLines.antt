@@ -1,10 +1,11 @@
--- the line of each operator of a plan: its number, its kind, and its children or its table
+-- the line of each operator of a plan: its number, its kind, and its children or its table, with names in their canonical form
 use Rattle.std.specs.Prelude.{ℕ, ◌+◌, List, [], ◌∷◌, ◌++◌, codes, decimal}
+use Rattle.pm_lexer.specs.Quoting.{canon_name}
 use Rattle.pm_plan.specs.declared.plan.Node.{Node}
 use Rattle.pm_plan.specs.declared.plan.Node.TheVariants as node
 
 abbrev pub operator_text : Node → List ℕ
-operator_text (node.Scan table label) = codes "scan " ++ label.table ++ codes " " ++ label.alias
+operator_text (node.Scan table label) = codes "scan " ++ canon_name label.table ++ codes " " ++ canon_name label.alias
 operator_text (node.Project child columns) = codes "project " ++ decimal child
 
 abbrev pub node_line : ℕ → Node → List ℕ

@@ -1,4 +1,5 @@
-ghost use Rattle.std.specs.Prelude.{◌≡◌, ◌≤◌, ◌+◌, ◌<◌, ◌++◌, ◌^◌, Err, IfOk, OnOk, OnErr};
+ghost use Rattle.std.specs.Prelude.{◌≡◌, ◌≤◌, ◌+◌, ◌<◌, ◌++◌, ◌^◌, Err, codes, string_bytes, IfOk, OnOk, OnErr};
+ghost use Rattle.pm_lexer.specs.Quoting.{canon_name};
 ghost use Rattle.pm_io.specs.Counts.{Rose};
 ghost use Rattle.pm_io.specs.Sink.{gained, GainsPart};
 ghost use Rattle.pm_lines.specs.PlanLines.{operator_text, node_line, plan_lines};
@@ -6,7 +7,8 @@ ghost use Rattle.pm_lines.specs.PlanLines.{operator_text, node_line, plan_lines}
 use crate::fault::LineBad;
 use itoa::Buffer;
 use pm_io::{Sink, write_whole};
-use pm_plan::{Node, Plan};
+use pm_lexer::put_name;
+use pm_plan::{Label, Node, Plan};
 use std::alloc::{AllocError, Global};
 
 /// Writes the line of each operator, in the plan's order.
@@ -30,20 +32,18 @@ fn text_of_node(alloc: Global, number: usize, node: &Node) -> Result<Vec<u8>, Al
     let mut line = Vec::from_slice(alloc, b"N ")?;
     line.extend_from_slice(buffer.format(number).as_bytes())?;
     line.extend_from_slice(b" ")?;
-    push_operator(&mut line, node)?;
+    push_operator(alloc, &mut line, node)?;
     line.extend_from_slice(b"\n")?;
     Ok(line)
 }
 
-fn push_operator(line: &mut Vec<u8>, node: &Node) -> Result<(), AllocError>
+fn push_operator(alloc: Global, line: &mut Vec<u8>, node: &Node) -> Result<(), AllocError>
     ensures { OnOk result (line.new.items ≡ line.old.items ++ operator_text node.now) }
 {
     match node {
         Node::Scan { label, .. } => {
             line.extend_from_slice(b"scan ")?;
-            line.extend_from_slice(label.table.bytes())?;
-            line.extend_from_slice(b" ")?;
-            line.extend_from_slice(label.alias.bytes())?;
+            line.extend_from_slice(names_of(alloc, label)?.as_bytes())?;
             Ok(())
         }
         Node::Project { child, .. } => {
@@ -53,4 +53,15 @@ fn push_operator(line: &mut Vec<u8>, node: &Node) -> Result<(), AllocError>
             Ok(())
         }
     }
+}
+
+// A table's name and its alias, each in its canonical form.
+fn names_of(alloc: Global, label: &Label) -> Result<String, AllocError>
+    ensures { IfOk result (λ names. string_bytes names ≡ canon_name label.now.table ++ codes " " ++ canon_name label.now.alias) }
+{
+    let mut names = String::new(alloc);
+    put_name(&mut names, &label.table)?;
+    names.push_str(" ")?;
+    put_name(&mut names, &label.alias)?;
+    Ok(names)
 }
