@@ -1,2 +1,5 @@
 pub mod Combinators
+pub mod Doubling
+pub mod Joining
+pub mod Points
 pub mod Valid

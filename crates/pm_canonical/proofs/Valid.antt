@@ -18,7 +18,7 @@ use Rattle.pm_syntax.specs.declared.tree.Test.{Test}
 use Rattle.pm_syntax.specs.declared.tree.Test.TheVariants as test
 use Rattle.pm_syntax.specs.declared.tree.OrderItem.{OrderItem}
 use Rattle.pm_syntax.specs.declared.tree.Select.{Select}
-use Rattle.pm_syntax.specs.Canon.{is_plain, padded}
+use Rattle.pm_canonical.specs.Canon.{is_plain, padded}
 
 -- P holds of each
 abbrev pub Every : {A : Type 0} → (A → Type 0) → List A → Type 0

@@ -1,2 +1,10 @@
-//! The canonical text of a statement reads back as the same statement.
+//! The canonical text of a SELECT statement: `print` gives it. What it is stands in specs/.
 #![tactic(auto)]
+
+pub mod numerals;
+pub mod printing;
+#[cfg(test)]
+mod tests;
+pub mod words;
+
+pub use printing::print;

@@ -2,10 +2,10 @@ ghost use Rattle.std.specs.Prelude.{◌≡◌, ◌++◌, ◌<◌, ◌≤◌, ◌
 ghost use Rattle.std.specs.List.{list_all, flat_map};
 ghost use Rattle.pm_lexer.specs.Byte.{is_letter, is_word};
 ghost use Rattle.pm_lexer.specs.Symbol.{reserved_word};
-ghost use Rattle.pm_syntax.specs.Canon.{doubled, quoted, is_plain, canon_name, canon_alias, canon_column, canon_func, canon_expr, canon_number, canon_literal, canon_atom, canon_comparison, canon_given, pointed};
+ghost use Rattle.pm_canonical.specs.Canon.{doubled, quoted, is_plain, canon_name, canon_alias, canon_column, canon_func, canon_expr, canon_number, canon_literal, canon_atom, canon_comparison, canon_given, pointed};
 ghost use Rattle.pm_lexer.specs.Pieces.{NoneBefore, IsFirst};
 
-use crate::tree::{ColumnName, Comparison, Expr, Func, PlacedName};
+use pm_syntax::{ColumnName, Comparison, Expr, Func, PlacedName};
 use pm_lexer::Symbol;
 use pm_values::Txt;
 use std::alloc::{AllocError, Global};

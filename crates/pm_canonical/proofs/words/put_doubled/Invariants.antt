@@ -1,8 +1,8 @@
 use Rattle.std.proofs.Common.{◌≡◌, ◌++◌, length, string_bytes}
 use denote.Text.{Utf8}
 use denote.Shadow.{shadow}
-use Rattle.pm_syntax.specs.Canon.{doubled}
-use Rattle.pm_syntax.proofs.words.put_doubled.Given as goal
+use Rattle.pm_canonical.specs.Canon.{doubled}
+use Rattle.pm_canonical.proofs.words.put_doubled.Given as goal
 
 abbrev pub invariant-pieces : goal.invariant-pieces
 invariant-pieces l = record {

@@ -1,7 +1,7 @@
 use Rattle.std.proofs.Common.{string_bytes, arith}
-use Rattle.pm_syntax.specs.Canon.{separator, member_of, text_of}
-use Rattle.pm_syntax.proofs.Joining.{member_put, members_put}
-use Rattle.pm_syntax.proofs.printing.+put_test.Goals as goal
+use Rattle.pm_canonical.specs.Canon.{separator, member_of, text_of}
+use Rattle.pm_canonical.proofs.Joining.{member_put, members_put}
+use Rattle.pm_canonical.proofs.printing.+put_test.Goals as goal
 
 pub put_members-members-preserved : goal.put_members-members-preserved
 put_members-members-preserved t c =

@@ -4,7 +4,7 @@ use Rattle.std.specs.Str.{IsAscii, IsCharBoundary}
 use Rattle.std.proofs.lemmas.Str.{IsCharBoundary-from_ascii}
 use Rattle.std.proofs.lemmas.Bool.{ne_eqb}
 use Rattle.std.proofs.lemmas.List.{length-replicate}
-use Rattle.pm_syntax.specs.Canon.{padded, pointed}
+use Rattle.pm_canonical.specs.Canon.{padded, pointed}
 
 no_zeros : (k n : ℕ) → k ≤ n → replicate {A = ℕ} (k - n) 48 ≡ []
 no_zeros k n h = let none : k - n ≡ 0 = omega arith in rw none refl

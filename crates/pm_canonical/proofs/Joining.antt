@@ -2,7 +2,7 @@
 use Rattle.std.proofs.Common.{◌≡◌, ◌<◌, ◌≤◌, ◌+◌, ℕ, suc, zero, Bool, true, false, List, [], ◌∷◌, ◌++◌, length, take, map, get_or, refl, sym, ◌∙◌, ap, arith, append_assoc, if◌then◌else◌, ◌==◌}
 use Rattle.std.proofs.lemmas.List.{take_more, take_all, map-append, length-map, length-take}
 use Rattle.std.proofs.lemmas.Bool.{ne_eqb}
-use Rattle.pm_syntax.specs.Canon.{joined, behind}
+use Rattle.pm_canonical.specs.Canon.{joined, behind}
 
 behind_more : (sep : List ℕ) (n : ℕ) (piece : List ℕ) → behind sep (suc n) piece ≡ sep ++ piece
 behind_more sep n piece = let e : (suc n == 0) ≡ false = ne_eqb (suc n) 0 (λ h. absurd (omega arith)) in rw e refl

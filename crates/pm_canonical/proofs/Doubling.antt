@@ -2,7 +2,7 @@
 use Rattle.std.proofs.Common.{◌≡◌, ◌<◌, ◌≤◌, ◌+◌, ℕ, suc, zero, Bool, true, false, List, [], ◌∷◌, ◌++◌, length, drop, take, refl, sym, ◌∙◌, ap, arith, append_assoc, if◌then◌else◌, ◌==◌, eq-eqb}
 use Rattle.std.proofs.lemmas.Bool.{ne_eqb}
 use Rattle.pm_lexer.specs.Pieces.{NoneBefore, IsFirst}
-use Rattle.pm_syntax.specs.Canon.{doubled}
+use Rattle.pm_canonical.specs.Canon.{doubled}
 
 doubled_other : (q b : ℕ) (rest : List ℕ) → (b == q) ≡ false → doubled q (b ∷ rest) ≡ b ∷ doubled q rest
 unfolding doubled

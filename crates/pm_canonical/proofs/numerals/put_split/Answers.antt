@@ -1,7 +1,7 @@
 use Rattle.std.proofs.Common.{◌≡◌, ◌++◌, ◌+◌, List, ℕ, sym, ◌∙◌, ap, append_assoc, string_bytes, refl}
-use Rattle.pm_syntax.specs.Canon.{pointed, padded}
-use Rattle.pm_syntax.proofs.Points.{pointed_long}
-use Rattle.pm_syntax.proofs.numerals.put_split.Goals as goal
+use Rattle.pm_canonical.specs.Canon.{pointed, padded}
+use Rattle.pm_canonical.proofs.Points.{pointed_long}
+use Rattle.pm_canonical.proofs.numerals.put_split.Goals as goal
 
 regroup : (o a b c : List ℕ) → ((o ++ a) ++ b) ++ c ≡ o ++ ((a ++ b) ++ c)
 regroup o a b c = simp append_assoc

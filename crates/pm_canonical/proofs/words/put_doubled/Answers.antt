@@ -1,8 +1,8 @@
 use Rattle.std.proofs.Common.{rules, ◌≡◌, ◌++◌, ◌∷◌, [], take, drop, length, arith, sym, ◌∙◌, ap, refl, string_bytes}
 use Rattle.pm_lexer.proofs.QuoteEnds.{boundary_behind_quote}
-use Rattle.pm_syntax.specs.Canon.{doubled}
-use Rattle.pm_syntax.proofs.Doubling.{doubled_more, doubled_none}
-use Rattle.pm_syntax.proofs.words.put_doubled.Goals as goal
+use Rattle.pm_canonical.specs.Canon.{doubled}
+use Rattle.pm_canonical.proofs.Doubling.{doubled_more, doubled_none}
+use Rattle.pm_canonical.proofs.words.put_doubled.Goals as goal
 
 pub split_at-requires : goal.split_at-requires
 split_at-requires c =

@@ -1,9 +1,9 @@
 ghost use Rattle.std.specs.Prelude.{◌≡◌, ◌++◌, OnOk, IfOk, string_bytes, map, codes, [], if◌then◌else◌, ◌==◌};
 ghost use Rattle.std.specs.List.{flat_map};
-ghost use Rattle.pm_syntax.specs.Canon.{canon_literal, canon_atom, canon_given, canon_item, canon_items, canon_source, canon_further, canon_sources, canon_condition, canon_list, canon, canon_key, joined, behind, negation, canon_comparison, canon_test, text_of, member_of, separator, is_wrapped};
+ghost use Rattle.pm_canonical.specs.Canon.{canon_literal, canon_atom, canon_given, canon_item, canon_items, canon_source, canon_further, canon_sources, canon_condition, canon_list, canon, canon_key, joined, behind, negation, canon_comparison, canon_test, text_of, member_of, separator, is_wrapped};
 
 use crate::numerals::put_number;
-use crate::tree::{
+use pm_syntax::{
     Atom, ColumnName, Comparison, Item, Items, Literal, Literals, OrderItem, PlacedName, Select,
     Source, Test,
 };
@@ -67,7 +67,7 @@ trait Canon {
 }
 
 impl Canon for Literal {
-    ghost use Rattle.pm_syntax.specs.Canon.{canon_literal};
+    ghost use Rattle.pm_canonical.specs.Canon.{canon_literal};
 
     ghost canon = { canon_literal };
 
@@ -77,7 +77,7 @@ impl Canon for Literal {
 }
 
 impl Canon for ColumnName {
-    ghost use Rattle.pm_syntax.specs.Canon.{canon_column};
+    ghost use Rattle.pm_canonical.specs.Canon.{canon_column};
 
     ghost canon = { canon_column };
 
@@ -95,7 +95,7 @@ fn put_item(out: &mut String, item: &Item) -> Result<(), AllocError>
 }
 
 impl Canon for Item {
-    ghost use Rattle.pm_syntax.specs.Canon.{canon_item};
+    ghost use Rattle.pm_canonical.specs.Canon.{canon_item};
 
     ghost canon = { canon_item };
 
@@ -116,7 +116,7 @@ fn put_key(out: &mut String, key: &OrderItem) -> Result<(), AllocError>
 }
 
 impl Canon for OrderItem {
-    ghost use Rattle.pm_syntax.specs.Canon.{canon_key};
+    ghost use Rattle.pm_canonical.specs.Canon.{canon_key};
 
     ghost canon = { canon_key };
 

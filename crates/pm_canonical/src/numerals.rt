@@ -1,6 +1,6 @@
 ghost use Rattle.std.specs.Prelude.{◌≡◌, ◌++◌, ◌<◌, ◌+◌, length, OnOk, string_bytes, replicate};
 ghost use Rattle.std.specs.Str.{IsAscii};
-ghost use Rattle.pm_syntax.specs.Canon.{padded, pointed, canon_number};
+ghost use Rattle.pm_canonical.specs.Canon.{padded, pointed, canon_number};
 
 use itoa::Buffer;
 use std::alloc::AllocError;

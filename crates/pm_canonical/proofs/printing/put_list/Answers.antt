@@ -1,6 +1,6 @@
 use Rattle.std.proofs.Common.{string_bytes, codes}
-use Rattle.pm_syntax.proofs.Joining.{joined_put}
-use Rattle.pm_syntax.proofs.printing.put_list.Goals as goal
+use Rattle.pm_canonical.proofs.Joining.{joined_put}
+use Rattle.pm_canonical.proofs.printing.put_list.Goals as goal
 
 pub entries-preserved : goal.entries-preserved
 entries-preserved g c =
