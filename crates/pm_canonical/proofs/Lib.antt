@@ -1,6 +1,10 @@
+pub mod Combinators
 pub mod Doubling
-pub mod Joining
-pub mod Points
 pub mod Formed
-pub mod Runs
+pub mod Forming
+pub mod Joining
+pub mod Numbers
+pub mod Points
 pub mod Quoting
+pub mod Runs
+pub mod Valid

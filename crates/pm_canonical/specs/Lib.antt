@@ -1,1 +1,3 @@
 pub mod Canon
+pub mod Shapes
+pub mod Same
