@@ -99,17 +99,17 @@ slice_whole : (w rest : List ℕ) → take (sized (length w) 0) (w ++ rest) ≡ 
 unfolding sized
 slice_whole w rest = take-append_seam w rest ∙ sym (append-nil w)
 
+slice_long : (w : List ℕ) (c : ℕ) (rest : List ℕ) (k : ℕ) → take (sized (length w) (suc k)) (w ++ 46 ∷ (c ∷ rest)) ≡ w ++ point (take (suc k) (c ∷ rest))
+unfolding sized
+slice_long w c rest k =
+    let some : (suc k == 0) ≡ false = ne_eqb (suc k) 0 (λ h. absurd (omega arith)) in
+    let sum : length w + 1 + suc k ≡ length w + suc (suc k) = omega arith in
+    rw (some, sum) (take-append-add w (46 ∷ (c ∷ rest)) (suc (suc k)))
+
 slice_point : (w rest : List ℕ) (k : ℕ) → prefix_len is_ascii_digit rest ≡ k → take (sized (length w) k) (w ++ 46 ∷ rest) ≡ w ++ point (take k rest)
 slice_point w rest zero e = slice_whole w (46 ∷ rest)
 slice_point w [] (suc k) e = absurd (omega (arith, e))
-slice_point w (c ∷ rest) (suc k) e = long w c rest k
-  where
-    long : (w : List ℕ) (c : ℕ) (rest : List ℕ) (k : ℕ) → take (sized (length w) (suc k)) (w ++ 46 ∷ (c ∷ rest)) ≡ w ++ point (take (suc k) (c ∷ rest))
-    unfolding sized
-    long w c rest k =
-        let some : (suc k == 0) ≡ false = ne_eqb (suc k) 0 (λ h. absurd (omega arith)) in
-        let sum : length w + 1 + suc k ≡ length w + suc (suc k) = omega arith in
-        rw (some, sum) (take-append-add w (46 ∷ (c ∷ rest)) (suc (suc k)))
+slice_point w (c ∷ rest) (suc k) e = slice_long w c rest k
 
 slice_by : (w rest : List ℕ) → take (sized (length w) (decimals rest)) (w ++ rest) ≡ w ++ point (part_of rest)
 unfolding part_of
