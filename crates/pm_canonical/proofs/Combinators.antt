@@ -29,7 +29,7 @@ split [] (s ∷ a) b e = absurd (cc e)
 split (t ∷ front) (s ∷ a) b e =
     let r : Split front a b = split front a b (same_tail _ _ _ _ e) in
     let head : shape_of t ≡ s = same_head _ _ _ _ e in
-    record { first = t ∷ r.first; second = r.second; is = ap (λ x. t ∷ x) r.is; first_is = rw (head, r.first_is) refl; second_is = r.second_is }
+    record { first = t ∷ r.first; second = r.second; is = ap (λ x. t ∷ x) r.is; first_is = ap (λ x. x ∷ map shape_of r.first) head ∙ ap (λ xs. s ∷ xs) r.first_is; second_is = r.second_is }
 
 -- what these tokens are read as, whatever follows
 pub record Found {A : Type 0} (P : Lang A) (Good : A → Type 0) (front : List Token) : Type 1 where
@@ -94,9 +94,7 @@ Stands s h = same_symbol (symbol_at h.kind h.slice) s ≡ true
 
 pub stands_is : (s : Symbol) (h : Shape) → Stands s h → (t : Token) → shape_of t ≡ h → is s t ≡ true
 unfolding symbol_of
-stands_is s h stands t e =
-    let at_shape : Stands s (shape_of t) = rw e stands in
-    at_shape
+stands_is s h stands t e = ap (λ x. same_symbol (symbol_at x.kind x.slice) s) e ∙ stands
 
 pub symbol_token : (s : Symbol) (h : Shape) → Stands s h → Reading (Is (is s)) (λ t. shape_of t ≡ h) (h ∷ [])
 symbol_token s h stands = token (is s) h (stands_is s h stands)

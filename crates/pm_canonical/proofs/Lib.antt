@@ -1,7 +1,9 @@
 pub mod Combinators
 pub mod Doubling
+pub mod Formed
 pub mod Joining
 pub mod Points
-pub mod Quotes
+pub mod Quoting
+pub mod Runs
 pub mod Standing
 pub mod Valid
