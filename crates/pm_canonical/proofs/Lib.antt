@@ -7,4 +7,5 @@ pub mod Numbers
 pub mod Points
 pub mod Quoting
 pub mod Runs
+pub mod Standing
 pub mod Valid

@@ -79,10 +79,10 @@ ValidAtom grouped (atom.Literal l) = ValidLiteral l
 
 -- a test that is no list and no NOT
 pub data ValidLeaf (grouped : Bool) : Test → Type 0 where
-  compare : (how : Comparison) (left right : Atom) (at : ℕ) → ValidAtom grouped left → ValidAtom grouped right → ValidLeaf grouped (test.Compare how left right at)
-  is_null : (of : Atom) (negated : Bool) → ValidAtom grouped of → ValidLeaf grouped (test.IsNull of negated)
-  one_of : (of : Atom) (list : List Literal) (negated : Bool) (at : ℕ) → ValidAtom grouped of → ValidList 256 ValidLiteral list → ValidLeaf grouped (test.OneOf of list negated at)
-  between : (of low high : Atom) (negated : Bool) (at : ℕ) → ValidAtom grouped of → ValidAtom grouped low → ValidAtom grouped high → ValidLeaf grouped (test.Between of low high negated at)
+  compared : (how : Comparison) (left right : Atom) (at : ℕ) → ValidAtom grouped left → ValidAtom grouped right → ValidLeaf grouped (test.Compare how left right at)
+  null_test : (of : Atom) (negated : Bool) → ValidAtom grouped of → ValidLeaf grouped (test.IsNull of negated)
+  listed : (of : Atom) (list : List Literal) (negated : Bool) (at : ℕ) → ValidAtom grouped of → ValidList 256 ValidLiteral list → ValidLeaf grouped (test.OneOf of list negated at)
+  ranged : (of low high : Atom) (negated : Bool) (at : ℕ) → ValidAtom grouped of → ValidAtom grouped low → ValidAtom grouped high → ValidLeaf grouped (test.Between of low high negated at)
 
 -- as what a test stands: as a condition, as a member of an OR list, or as a member of an AND list or behind NOT
 pub data Role : Type 0 where
@@ -96,16 +96,16 @@ mutual
   pub data Fits (grouped : Bool) : Role → ℕ → Test → Type 0 where
     leaf : (role : Role) (d : ℕ) (t : Test) → ValidLeaf grouped t → Fits grouped role d t
     negated : (role : Role) (d : ℕ) (t : Test) → Fits grouped in_and d t → Fits grouped role (suc d) (test.Not t)
-    any : (d : ℕ) (members : List Test) → 2 ≤ length members → length members ≤ 256 → FitsEach grouped in_or d members → Fits grouped whole d (test.Any members)
+    any_list : (d : ℕ) (members : List Test) → 2 ≤ length members → length members ≤ 256 → FitsEach grouped in_or d members → Fits grouped whole d (test.Any members)
     any_in_or : (d : ℕ) (members : List Test) → Fits grouped whole d (test.Any members) → Fits grouped in_or (suc d) (test.Any members)
     any_in_and : (d : ℕ) (members : List Test) → Fits grouped whole d (test.Any members) → Fits grouped in_and (suc d) (test.Any members)
-    all : (d : ℕ) (members : List Test) → 2 ≤ length members → length members ≤ 256 → FitsEach grouped in_and d members → Fits grouped whole d (test.All members)
+    all_list : (d : ℕ) (members : List Test) → 2 ≤ length members → length members ≤ 256 → FitsEach grouped in_and d members → Fits grouped whole d (test.All members)
     all_in_or : (d : ℕ) (members : List Test) → Fits grouped whole d (test.All members) → Fits grouped in_or d (test.All members)
     all_in_and : (d : ℕ) (members : List Test) → Fits grouped whole d (test.All members) → Fits grouped in_and (suc d) (test.All members)
 
   pub data FitsEach (grouped : Bool) : Role → ℕ → List Test → Type 0 where
-    none : (role : Role) (d : ℕ) → FitsEach grouped role d []
-    more : (role : Role) (d : ℕ) (t : Test) (ts : List Test) → Fits grouped role d t → FitsEach grouped role d ts → FitsEach grouped role d (t ∷ ts)
+    no_members : (role : Role) (d : ℕ) → FitsEach grouped role d []
+    member : (role : Role) (d : ℕ) (t : Test) (ts : List Test) → Fits grouped role d t → FitsEach grouped role d ts → FitsEach grouped role d (t ∷ ts)
 
 pub record ValidItem (item : Item) : Type 0 where
   pub expr : ValidExpr item.expr
@@ -122,7 +122,7 @@ pub record ValidSource (source : Source) : Type 0 where
 
 abbrev pub Unjoined : List Source → Type 0
 Unjoined [] = Unit {0}
-Unjoined (first ∷ more) = first.on ≡ None
+Unjoined (first ∷ others) = first.on ≡ None
 
 pub record Valid (s : Select) : Type 0 where
   pub items : ValidItems s.items
