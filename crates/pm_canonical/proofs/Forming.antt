@@ -8,6 +8,7 @@ use Rattle.std.proofs.lemmas.Bool.Decides.{nat_tests}
 use Rattle.std.proofs.lemmas.List.{append_assoc}
 use Rattle.std.proofs.lemmas.List.Elements.{All-nil, All-cons}
 use Rattle.std.proofs.lemmas.List.Folds.{length-prefix_len}
+use Rattle.std.proofs.lemmas.Iterator.Adapters.{position_from-zero}
 use Rattle.std.proofs.Math.Seq.{take-append_seam, take-append-add}
 use Rattle.pm_lexer.specs.declared.token.Token.{Token}
 use Rattle.pm_lexer.specs.declared.token.TokenKind.{TokenKind}
@@ -119,7 +120,7 @@ quoted_forms at front rest some short none =
     rw (long, slice, content) (record {
       some = some_single 34 front (omega (arith, eqb-false (length front) 0 some));
       short = grind (arith, nat_tests);
-      clean = every_shown (single_quotes 34 front) (all_single (λ b. not (is_ascii_control b)) 34 front (shown_from 0 front none));
+      clean = every_shown (single_quotes 34 front) (all_single (λ b. not (is_ascii_control b)) 34 front (shown_from 0 front (sym (position_from-zero is_ascii_control front) ∙ none)));
     })
 
 named_forms : (at : ℕ) (front rest : List ℕ) → Forms (34 ∷ (front ++ 34 ∷ rest)) (named_at at front)
@@ -133,14 +134,16 @@ named_forms at front rest =
       | Some i ↦ λ _. tt
     ] refl))
 
+closed_forms : (at : ℕ) (rest : List ℕ) (n : ℕ) → Closing 34 rest n → Forms (34 ∷ rest) (named_at at (take n rest))
+closed_forms at rest n r =
+    let name : take n (r.front ++ 34 ∷ r.rest) ≡ r.front = rw (sym r.long) (take-append_seam r.front (34 ∷ r.rest)) in
+    rw r.is (rw name (named_forms at r.front r.rest))
+
 quoted_at_forms : (at : ℕ) (rest : List ℕ) → Forms (34 ∷ rest) (quoted_at at rest)
 quoted_at_forms at rest =
     elim (quotation 34 rest) as (λ o. quotation 34 rest ≡ o → Forms (34 ∷ rest) (closed_name_at at rest o)) [
       | None ↦ λ _. tt
-      | Some n ↦ λ e.
-          let r = closing 34 rest n e in
-          let name : take n rest ≡ r.front = rw (r.is, sym r.long) (take-append_seam r.front (34 ∷ r.rest)) in
-          rw name (rw r.is (named_forms at r.front r.rest))
+      | Some n ↦ λ e. closed_forms at rest n (closing 34 rest n e)
     ] refl
 
 text_forms : (at : ℕ) (rest text : List ℕ) → Forms text (text_at at rest)

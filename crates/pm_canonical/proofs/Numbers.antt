@@ -58,7 +58,7 @@ sized_is w (x ∷ d) = let some : (suc (length d) == 0) ≡ false = ne_eqb (suc 
 
 pub number_is : (w d rest : List ℕ) → list_all is_ascii_digit w ≡ true → list_all is_ascii_digit d ≡ true → Follows ends_number rest → number_len (w ++ (point d ++ rest)) ≡ length (w ++ point d)
 unfolding sized
-number_is w d rest whole part ends = rw (whole_is w d rest whole ends, decimals_is w d rest whole part ends) (sized_is w d)
+number_is w d rest whole part ends = rw (decimals_is w d rest whole part ends, whole_is w d rest whole ends) (sized_is w d)
 
 -- the digits of a number, and how many there are
 digits_of : (w d : List ℕ) → list_all is_ascii_digit w ≡ true → list_all is_ascii_digit d ≡ true → filter is_ascii_digit (w ++ point d) ≡ w ++ d
@@ -76,22 +76,20 @@ number_formed w d some whole part behind short =
     record {
       some = rw w_is some;
       decimals = rw d_is behind;
-      digits = rw (w_is, d_is) (ap length (digits_of w d whole part) ∙ length-append w d);
-      short = rw (w_is, d_is) short;
+      digits = rw (d_is, w_is) (ap length (digits_of w d whole part) ∙ length-append w d);
+      short = rw (d_is, w_is) short;
     }
 
 -- the number at the head of a text, in its two parts
-part_of : List ℕ → List ℕ
+abbrev pub part_of : List ℕ → List ℕ
 part_of [] = []
 part_of (b ∷ rest) = if b == 46 then take (prefix_len is_ascii_digit rest) rest else []
 
 part_digits : (rest : List ℕ) → list_all is_ascii_digit (part_of rest) ≡ true
-unfolding part_of
 part_digits [] = refl
 part_digits (b ∷ rest) = elim (b == 46) as (λ t. list_all is_ascii_digit (if t then take (prefix_len is_ascii_digit rest) rest else []) ≡ true) [ true ↦ run_all is_ascii_digit rest | false ↦ refl ]
 
 part_len : (rest : List ℕ) → length (part_of rest) ≡ decimals rest
-unfolding part_of
 part_len [] = refl
 part_len (b ∷ rest) = elim (b == 46) as (λ t. length (if t then take (prefix_len is_ascii_digit rest) rest else []) ≡ (if t then prefix_len is_ascii_digit rest else 0)) [ true ↦ length-prefix_len is_ascii_digit rest | false ↦ refl ]
 
@@ -112,7 +110,6 @@ slice_point w [] (suc k) e = absurd (omega (arith, e))
 slice_point w (c ∷ rest) (suc k) e = slice_long w c rest k
 
 slice_by : (w rest : List ℕ) → take (sized (length w) (decimals rest)) (w ++ rest) ≡ w ++ point (part_of rest)
-unfolding part_of
 slice_by w [] = slice_whole w []
 slice_by w (b ∷ rest) =
     elim (b == 46) as (λ t. (b == 46) ≡ t → take (sized (length w) (if t then prefix_len is_ascii_digit rest else 0)) (w ++ b ∷ rest) ≡ w ++ point (if t then take (prefix_len is_ascii_digit rest) rest else [])) [
