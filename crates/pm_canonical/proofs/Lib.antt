@@ -2,10 +2,13 @@ pub mod Combinators
 pub mod Doubling
 pub mod Formed
 pub mod Forming
+pub mod Heads
 pub mod Joining
 pub mod Numbers
 pub mod Points
 pub mod Quoting
 pub mod Runs
+pub mod Spelling
 pub mod Standing
 pub mod Valid
+pub mod Wording
