@@ -7,3 +7,4 @@ pub mod Quoting
 pub mod Runs
 pub mod Standing
 pub mod Valid
+pub mod Probe
