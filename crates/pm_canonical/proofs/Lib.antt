@@ -7,4 +7,5 @@ pub mod Quoting
 pub mod Runs
 pub mod Standing
 pub mod Valid
-pub mod Probe
+pub mod Folds
+pub mod NameReadings
