@@ -60,3 +60,54 @@ column_with (Some alias) name =
 pub column_read : (column : ColumnName) → Reading IsColumn (λ y. unplaced_column y ≡ unplaced_column column) (shapes_column column)
 unfolding shapes_column
 column_read column = column_with column.alias column.name
+
+pub given_read : (given : Option PlacedName) → Reading IsGiven (λ y. unplaced_option unplaced_name y ≡ unplaced_option unplaced_name given) (shapes_given given)
+unfolding shapes_given
+given_read None =
+    left (λ next. next None) (λ next ts. IsName (λ name. next (Some name)) ts ⊎ Is (is symbol.As) (λ _. IsName (λ name. next (Some name))) ts) _ [] (pure _ None refl)
+given_read (Some name) =
+    right (λ next. next None) (λ next ts. IsName (λ n. next (Some n)) ts ⊎ Is (is symbol.As) (λ _. IsName (λ n. next (Some n))) ts) _ (word symbol.As ∷ shape_name name.text ∷ [])
+    (right (λ next. IsName (λ n. next (Some n))) (λ next. Is (is symbol.As) (λ _. IsName (λ n. next (Some n)))) _ (word symbol.As ∷ shape_name name.text ∷ [])
+    (behind symbol.As (word symbol.As) stands_as (λ _ next. IsName (λ n. next (Some n))) _ (shape_name name.text ∷ [])
+    (λ _ _. mapped IsName (λ n. Some n) (λ y. unplaced_name y ≡ unplaced_name name) _ (shape_name name.text ∷ []) (name_read name) (λ n same. ap (λ x. Some x) same))))
+
+-- the function that its name in capitals names
+func_shape : (f : Func) → func_of_kind kind.Name (canon_func f) ≡ Some f
+unfolding func_named
+func_shape func.Count = refl
+func_shape func.Sum = refl
+func_shape func.Min = refl
+func_shape func.Max = refl
+
+func_is : (f : Func) (t : Token) → shape_of t ≡ shape_func f → func_of t ≡ Some f
+func_is f t e = ap (λ h. func_of_kind h.kind h.slice) e ∙ func_shape f
+
+column_expr : (column : ColumnName) → Reading (λ next. IsColumn (λ c. next (expr.Column c))) (λ y. unplaced_expr y ≡ unplaced_expr (expr.Column column)) (shapes_column column)
+column_expr column = mapped IsColumn (λ c. expr.Column c) (λ y. unplaced_column y ≡ unplaced_column column) _ (shapes_column column) (column_read column) (λ c same. ap (λ x. expr.Column x) same)
+
+count_all_read : (at : ℕ) → Reading IsCountAll (λ y. unplaced_expr y ≡ expr.CountAll 0) (shape_func func.Count ∷ sign symbol.Open ∷ sign symbol.Star ∷ sign symbol.Close ∷ [])
+count_all_read at =
+    bind (Is counts) (λ count next. Is (is symbol.Open) (λ _. Is (is symbol.Star) (λ _. Is (is symbol.Close) (λ _. next (expr.CountAll count.at))))) (λ t. shape_of t ≡ shape_func func.Count) _
+    (shape_func func.Count ∷ []) (sign symbol.Open ∷ sign symbol.Star ∷ sign symbol.Close ∷ [])
+    (token counts (shape_func func.Count) (λ t e. ap is_count (func_is func.Count t e)))
+    (λ count _. behind symbol.Open (sign symbol.Open) stands_open (λ _ next. Is (is symbol.Star) (λ _. Is (is symbol.Close) (λ _. next (expr.CountAll count.at)))) _ (sign symbol.Star ∷ sign symbol.Close ∷ [])
+    (λ _ _. behind symbol.Star (sign symbol.Star) stands_star (λ _ next. Is (is symbol.Close) (λ _. next (expr.CountAll count.at))) _ (sign symbol.Close ∷ [])
+    (λ _ _. behind symbol.Close (sign symbol.Close) stands_close (λ _ next. next (expr.CountAll count.at)) _ []
+    (λ _ _. pure _ (expr.CountAll count.at) refl))))
+
+call_read : (f : Func) (column : ColumnName) → Reading IsCall (λ y. unplaced_expr y ≡ expr.Call f (unplaced_column column) 0) (shape_func f ∷ sign symbol.Open ∷ shapes_column column ++ sign symbol.Close ∷ [])
+call_read f column =
+    bind (Is (λ t. is_some (func_of t))) (λ t next. Is (is symbol.Open) (λ _. IsColumn (λ c. Is (is symbol.Close) (λ _. next (expr.Call (unwrap_or (func_of t) func.Count) c t.at))))) (λ t. shape_of t ≡ shape_func f) _
+    (shape_func f ∷ []) (sign symbol.Open ∷ shapes_column column ++ sign symbol.Close ∷ [])
+    (token (λ t. is_some (func_of t)) (shape_func f) (λ t e. ap is_some (func_is f t e)))
+    (λ t e. behind symbol.Open (sign symbol.Open) stands_open (λ _ next. IsColumn (λ c. Is (is symbol.Close) (λ _. next (expr.Call (unwrap_or (func_of t) func.Count) c t.at)))) _ (shapes_column column ++ sign symbol.Close ∷ [])
+    (λ _ _. bind IsColumn (λ c next. Is (is symbol.Close) (λ _. next (expr.Call (unwrap_or (func_of t) func.Count) c t.at))) (λ y. unplaced_column y ≡ unplaced_column column) _ (shapes_column column) (sign symbol.Close ∷ []) (column_read column)
+    (λ c same. behind symbol.Close (sign symbol.Close) stands_close (λ _ next. next (expr.Call (unwrap_or (func_of t) func.Count) c t.at)) _ []
+    (λ _ _. pure _ (expr.Call (unwrap_or (func_of t) func.Count) c t.at)
+        (ap (λ x. expr.Call (unwrap_or x func.Count) (unplaced_column c) 0) (func_is f t e) ∙ ap (λ x. expr.Call f x 0) same)))))
+
+pub expr_read : (e : Expr) → Reading IsExpr (λ y. unplaced_expr y ≡ unplaced_expr e) (shapes_expr e)
+unfolding shapes_expr
+expr_read (expr.Column column) = left (λ next. IsColumn (λ c. next (expr.Column c))) (λ next ts. IsCountAll next ts ⊎ IsCall next ts) _ _ (column_expr column)
+expr_read (expr.CountAll at) = right (λ next. IsColumn (λ c. next (expr.Column c))) (λ next ts. IsCountAll next ts ⊎ IsCall next ts) _ _ (left IsCountAll IsCall _ _ (count_all_read at))
+expr_read (expr.Call f column at) = right (λ next. IsColumn (λ c. next (expr.Column c))) (λ next ts. IsCountAll next ts ⊎ IsCall next ts) _ _ (right IsCountAll IsCall _ _ (call_read f column))
