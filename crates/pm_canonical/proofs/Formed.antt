@@ -1,6 +1,5 @@
 -- What lexing says of one token.
-use Rattle.std.proofs.Common.{◌≡◌, ◌<◌, ◌≤◌, ◌+◌, ℕ, Bool, true, List, length, filter, not}
-use Rattle.std.specs.List.{list_all}
+use Rattle.std.proofs.Common.{◌≡◌, ◌<◌, ◌≤◌, ◌+◌, ℕ, true, false, List, length, filter}
 use Rattle.std.specs.Option.{is_some}
 use Rattle.std.specs.Char.{is_ascii_digit, is_ascii_control}
 use Rattle.pm_lexer.specs.declared.token.Token.{Token}
@@ -9,10 +8,7 @@ use Rattle.pm_lexer.specs.declared.token.TokenKind.TheVariants as kind
 use Rattle.pm_lexer.specs.Pieces.{whole_len, decimals_len, content_at}
 use Rattle.pm_lexer.specs.Symbol.{reserved_word}
 use Rattle.pm_canonical.specs.Canon.{is_plain}
-
--- a byte that may stand in a name between quotes
-abbrev pub is_shown : ℕ → Bool
-is_shown b = not (is_ascii_control b)
+use Rattle.pm_canonical.proofs.Valid.{Every}
 
 -- a name that needs no quotes, and one that may stand between them
 pub record IsPlainName (name : List ℕ) : Type 0 where
@@ -22,7 +18,7 @@ pub record IsPlainName (name : List ℕ) : Type 0 where
 pub record IsQuotedName (name : List ℕ) : Type 0 where
   pub some : 0 < length name
   pub short : length name ≤ 64
-  pub shown : list_all is_shown name ≡ true
+  pub clean : Every (λ b. is_ascii_control b ≡ false) name
 
 -- a number: at most 30 digits, of which at most 6 stand behind the point
 pub record IsNumber (slice : List ℕ) : Type 0 where

@@ -1,7 +1,9 @@
 pub mod Combinators
 pub mod Doubling
 pub mod Formed
+pub mod Forming
 pub mod Joining
+pub mod Numbers
 pub mod Points
 pub mod Quoting
 pub mod Runs
