@@ -11,3 +11,5 @@ pub mod Standing
 pub mod Valid
 pub mod Folds
 pub mod NameReadings
+pub mod Values
+pub mod OperandReadings

@@ -82,7 +82,7 @@ func_shape func.Max = refl
 func_is : (f : Func) (t : Token) → shape_of t ≡ shape_func f → func_of t ≡ Some f
 func_is f t e = ap (λ h. func_of_kind h.kind h.slice) e ∙ func_shape f
 
-column_expr : (column : ColumnName) → Reading (λ next. IsColumn (λ c. next (expr.Column c))) (λ y. unplaced_expr y ≡ unplaced_expr (expr.Column column)) (shapes_column column)
+pub column_expr : (column : ColumnName) → Reading (λ next. IsColumn (λ c. next (expr.Column c))) (λ y. unplaced_expr y ≡ unplaced_expr (expr.Column column)) (shapes_column column)
 column_expr column = mapped IsColumn (λ c. expr.Column c) (λ y. unplaced_column y ≡ unplaced_column column) _ (shapes_column column) (column_read column) (λ c same. ap (λ x. expr.Column x) same)
 
 count_all_read : (at : ℕ) → Reading IsCountAll (λ y. unplaced_expr y ≡ expr.CountAll 0) (shape_func func.Count ∷ sign symbol.Open ∷ sign symbol.Star ∷ sign symbol.Close ∷ [])
