@@ -61,7 +61,7 @@ unfolding sized
 number_is w d rest whole part ends = rw (decimals_is w d rest whole part ends, whole_is w d rest whole ends) (sized_is w d)
 
 -- the digits of a number, and how many there are
-digits_of : (w d : List ℕ) → list_all is_ascii_digit w ≡ true → list_all is_ascii_digit d ≡ true → filter is_ascii_digit (w ++ point d) ≡ w ++ d
+pub digits_of : (w d : List ℕ) → list_all is_ascii_digit w ≡ true → list_all is_ascii_digit d ≡ true → filter is_ascii_digit (w ++ point d) ≡ w ++ d
 digits_of w d whole part = filter-append is_ascii_digit w (point d) ∙ ap (λ t. t ++ filter is_ascii_digit (point d)) (filter_all is_ascii_digit w whole) ∙ ap (λ t. w ++ t) (behind d part)
   where
     behind : (d : List ℕ) → list_all is_ascii_digit d ≡ true → filter is_ascii_digit (point d) ≡ d

@@ -1,5 +1,5 @@
 -- The trees that reading gives.
-use Rattle.std.proofs.Common.{◌≡◌, ◌≤◌, ◌<◌, ◌+◌, ℕ, suc, zero, max, ℤ, pos, Bool, true, false, List, [], ◌∷◌, length, map, Option, Some, None, if◌then◌else◌, decimal, unsigned_abs, not}
+use Rattle.std.proofs.Common.{◌≡◌, ◌≤◌, ◌<◌, ◌+◌, ◌^◌, ℕ, suc, zero, ℤ, pos, Bool, true, false, List, [], ◌∷◌, length, map, Option, Some, None, if◌then◌else◌, decimal, unsigned_abs, not}
 use Rattle.std.specs.Char.{is_ascii_control}
 use Rattle.pm_syntax.specs.declared.tree.PlacedName.{PlacedName}
 use Rattle.pm_syntax.specs.declared.tree.ColumnName.{ColumnName}
@@ -59,6 +59,7 @@ ValidExpr (expr.Call f column at) = ValidColumn column
 
 pub record ValidNumber (value : ℤ) (decimals : ℕ) : Type 0 where
   pub behind : decimals ≤ 6
+  pub small : unsigned_abs value < 10 ^ 30
   pub short : length (padded (decimals + 1) (decimal (unsigned_abs value))) ≤ 30
 
 abbrev pub ValidLiteral : Literal → Type 0

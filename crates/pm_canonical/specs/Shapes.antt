@@ -122,11 +122,11 @@ shapes_layer (layer.Any members) = record { any = true; all = false; shapes = be
 shapes_layer (layer.All members) = record { any = false; all = true; shapes = between (list_word false) (map (member_shapes false) members) }
 shapes_layer (layer.Not part) = single (word symbol.Not ∷ member_shapes false part)
 shapes_layer (layer.Compare how left right at) = single (shapes_atom left ++ shape_comparison how ∷ shapes_atom right)
-shapes_layer (layer.IsNull of negated) = single (shapes_atom of ++ word symbol.Is ∷ shapes_negation negated ++ word symbol.Null ∷ [])
+shapes_layer (layer.IsNull of negated) = single (shapes_atom of ++ (word symbol.Is ∷ shapes_negation negated ++ word symbol.Null ∷ []))
 shapes_layer (layer.OneOf of list negated at) =
-    single (shapes_atom of ++ shapes_negation negated ++ word symbol.In ∷ sign symbol.Open ∷ between (sign symbol.Comma) (map shapes_literal list) ++ sign symbol.Close ∷ [])
+    single (shapes_atom of ++ (shapes_negation negated ++ (word symbol.In ∷ sign symbol.Open ∷ between (sign symbol.Comma) (map shapes_literal list) ++ sign symbol.Close ∷ [])))
 shapes_layer (layer.Between of low high negated at) =
-    single (shapes_atom of ++ shapes_negation negated ++ word symbol.Between ∷ shapes_atom low ++ word symbol.And ∷ shapes_atom high)
+    single (shapes_atom of ++ (shapes_negation negated ++ (word symbol.Between ∷ shapes_atom low ++ word symbol.And ∷ shapes_atom high)))
 
 abbrev pub phrase_of : Test → Phrase
 phrase_of = fold-Test Phrase shapes_layer
@@ -171,6 +171,6 @@ shapes_list words f (x ∷ xs) = words ++ between (sign symbol.Comma) (map f (x 
 
 unfoldable pub shapes_select : Select → List Shape
 shapes_select s =
-    word symbol.Select ∷ (if s.distinct then word symbol.Distinct ∷ [] else []) ++ shapes_items s.items ++ word symbol.From ∷ shapes_sources s.sources
-    ++ shapes_condition (word symbol.Where) s.filter ++ shapes_list (word symbol.Group ∷ word symbol.By ∷ []) shapes_column s.groups
-    ++ shapes_condition (word symbol.Having) s.having ++ shapes_list (word symbol.Order ∷ word symbol.By ∷ []) shapes_key s.orders
+    word symbol.Select ∷ ((if s.distinct then word symbol.Distinct ∷ [] else []) ++ (shapes_items s.items ++ (word symbol.From ∷ (shapes_sources s.sources
+    ++ (shapes_condition (word symbol.Where) s.filter ++ (shapes_list (word symbol.Group ∷ word symbol.By ∷ []) shapes_column s.groups
+    ++ (shapes_condition (word symbol.Having) s.having ++ shapes_list (word symbol.Order ∷ word symbol.By ∷ []) shapes_key s.orders)))))))
