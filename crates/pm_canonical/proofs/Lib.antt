@@ -12,6 +12,7 @@ pub mod Points
 pub mod Quoting
 pub mod Runs
 pub mod Spelled
+pub mod SpelledSelect
 pub mod SpelledTests
 pub mod Spelling
 pub mod Standing
