@@ -13,3 +13,4 @@ pub mod Folds
 pub mod NameReadings
 pub mod Values
 pub mod OperandReadings
+pub mod LeafReadings
