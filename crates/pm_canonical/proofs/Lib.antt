@@ -14,3 +14,4 @@ pub mod NameReadings
 pub mod Values
 pub mod OperandReadings
 pub mod LeafReadings
+pub mod TestReadings
