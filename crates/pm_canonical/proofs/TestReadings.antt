@@ -131,3 +131,41 @@ all_read grouped d members two most all =
     (mapped (IsList never 256 (Part grouped d) (is symbol.And)) all_of (λ r. map unplaced_test r ≡ map unplaced_test members) (SameTest (test.All members)) _
     (list_read 256 (Part grouped d) symbol.And (word symbol.And) stands_and unplaced_test (λ t. member_shapes false (phrase_of t)) members all (omega arith) most)
     (λ r e. all_same members r two e))
+
+-- in parentheses
+in_parens_any : (members : List Test) (b : Bool) → sign symbol.Open ∷ (phrase_of (test.Any members)).shapes ++ sign symbol.Close ∷ [] ≡ member_shapes b (phrase_of (test.Any members))
+in_parens_any members b = rw (fold_any shapes_layer members) refl
+
+in_parens_all : (members : List Test) → sign symbol.Open ∷ (phrase_of (test.All members)).shapes ++ sign symbol.Close ∷ [] ≡ member_shapes false (phrase_of (test.All members))
+in_parens_all members = rw (fold_all shapes_layer members) refl
+
+all_bare : (members : List Test) → (phrase_of (test.All members)).shapes ≡ member_shapes true (phrase_of (test.All members))
+all_bare members = rw (fold_all shapes_layer members) refl
+
+leaf_at : (grouped : Bool) (role : Role) (d : ℕ) (t : Test) → ValidLeaf grouped t → Read grouped role d t
+leaf_at grouped role d t valid =
+    raised grouped role d (SameTest t) _ (shaped (Part grouped d) (SameTest t) _ _ (bare (phrase_of t) (leaf_plain grouped t valid) role) (part_leaf grouped d (SameTest t) _ (leaf_read grouped t valid)))
+
+not_bare : (t : Test) (b : Bool) → in_parens b (phrase_of (test.Not t)) ≡ false
+not_bare t b = ap (in_parens b) (fold_not shapes_layer t)
+
+not_at : (grouped : Bool) (role : Role) (d : ℕ) (t : Test) → Read grouped in_and d t → Read grouped role (suc d) (test.Not t)
+not_at grouped role d t p =
+    raised grouped role (suc d) (SameTest (test.Not t)) _
+    (shaped (Part grouped (suc d)) (SameTest (test.Not t)) _ _ (ap (λ x. x.shapes) (sym (fold_not shapes_layer t)) ∙ bare (phrase_of (test.Not t)) (not_bare t) role) (part_not grouped d t _ p))
+
+mutual
+  pub fits_read : (grouped : Bool) (role : Role) (d : ℕ) (t : Test) → Fits grouped role d t → Read grouped role d t
+  fits_read grouped _ _ _ (leaf role d t valid) = leaf_at grouped role d t valid
+  fits_read grouped _ _ _ (negated role d t part) = not_at grouped role d t (fits_read grouped in_and d t part)
+  fits_read grouped _ _ _ (any_list d members two most all) = any_read grouped d members two most (each_read grouped in_or d members all)
+  fits_read grouped _ _ _ (any_in_or d members p) =
+      part_and grouped (suc d) _ _ (shaped (Part grouped (suc d)) _ _ _ (in_parens_any members true) (part_parens grouped d _ _ (fits_read grouped whole d (test.Any members) p)))
+  fits_read grouped _ _ _ (any_in_and d members p) = shaped (Part grouped (suc d)) _ _ _ (in_parens_any members false) (part_parens grouped d _ _ (fits_read grouped whole d (test.Any members) p))
+  fits_read grouped _ _ _ (all_list d members two most all) = cond grouped d _ _ (all_read grouped d members two most (each_read grouped in_and d members all))
+  fits_read grouped _ _ _ (all_in_or d members two most all) = shaped (PartAnd grouped d) _ _ _ (all_bare members) (all_read grouped d members two most (each_read grouped in_and d members all))
+  fits_read grouped _ _ _ (all_in_and d members p) = shaped (Part grouped (suc d)) _ _ _ (in_parens_all members) (part_parens grouped d _ _ (fits_read grouped whole d (test.All members) p))
+
+  each_read : (grouped : Bool) (role : Role) (d : ℕ) (members : List Test) → FitsEach grouped role d members → Each (Read grouped role d) members
+  each_read grouped _ _ _ (no_members role d) = tt
+  each_read grouped _ _ _ (member role d t ts first rest) = (fits_read grouped role d t first, each_read grouped role d ts rest)
