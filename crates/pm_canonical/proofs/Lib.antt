@@ -15,3 +15,4 @@ pub mod Values
 pub mod OperandReadings
 pub mod LeafReadings
 pub mod TestReadings
+pub mod PartsReadings
