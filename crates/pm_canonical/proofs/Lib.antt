@@ -16,3 +16,4 @@ pub mod OperandReadings
 pub mod LeafReadings
 pub mod TestReadings
 pub mod PartsReadings
+pub mod ReadsBack

@@ -3,6 +3,7 @@ use Rattle.std.proofs.Common.{◌≡◌, ◌⊎◌, ◌<◌, ◌≤◌, ℕ, suc
 use Rattle.std.specs.List.{flat_map}
 use Rattle.std.proofs.lemmas.List.{append-nil}
 use Rattle.pm_lexer.specs.declared.token.Token.{Token}
+use Rattle.pm_lexer.specs.declared.symbol.Symbol.{Symbol}
 use Rattle.pm_lexer.specs.declared.symbol.Symbol.TheVariants as symbol
 use Rattle.pm_lexer.specs.Symbol.{is}
 use Rattle.pm_lexer.specs.Language.{Lang, Is, IsFurther, IsList, never}
@@ -19,7 +20,7 @@ use Rattle.pm_syntax.specs.Grammar.{IsName, IsColumn, IsExpr, IsGiven, IsItem, I
 use Rattle.pm_canonical.specs.Shapes.{Shape, shape_of, sign, word, between, shape_name, shapes_column, shapes_expr, shapes_given, shapes_item, shapes_items, shapes_source, shapes_further, shapes_sources, shapes_test, shapes_condition, shapes_list, shapes_key}
 use Rattle.pm_canonical.specs.Same.{unplaced_option, unplaced_name, unplaced_column, unplaced_expr, unplaced_item, unplaced_items, unplaced_test, unplaced_source, unplaced_key}
 use Rattle.pm_canonical.proofs.Valid.{Every, Where, ValidList, ValidPart, ValidColumn, ValidExpr, ValidItem, ValidItems, ValidSource, Unjoined, Fits, whole}
-use Rattle.pm_canonical.proofs.Combinators.{Reading, Entry, Each, each, pure, shaped, better, mapped, left, right, bind, behind, given, more_read, list_of}
+use Rattle.pm_canonical.proofs.Combinators.{Reading, Stands, Entry, Each, each, pure, shaped, better, mapped, left, right, bind, behind, given, more_read, list_of}
 use Rattle.pm_canonical.proofs.Standing.{stands_star, stands_comma, stands_join, stands_on, stands_where, stands_group, stands_by, stands_having, stands_order, stands_desc}
 use Rattle.pm_canonical.proofs.NameReadings.{name_read, column_read, expr_read, given_read}
 use Rattle.pm_canonical.proofs.LeafReadings.{SameTest}
@@ -123,7 +124,7 @@ Joins C next = Is (is symbol.Join) (λ _ ts. C × IsSource 32 never true next ts
 abbrev Inners : Type 0 → Lang Source
 Inners C next = Is (is symbol.Inner) (λ _. Is (is symbol.Join) (λ _ ts. C × IsSource 32 never true next ts))
 
-further_with : (table : PlacedName) (alias on : _) → Where (Fits false whole 32) on → Entry IsJoin (IsSource 32 never) (SameSource (record { table = table; alias = alias; on = on })) (shapes_further on (record { table = table; alias = alias; on = on }))
+further_with : (table : PlacedName) (alias : Option PlacedName) (on : Option Test) → Where (Fits false whole 32) on → Entry IsJoin (IsSource 32 never) (SameSource (record { table = table; alias = alias; on = on })) (shapes_further on (record { table = table; alias = alias; on = on }))
 unfolding shapes_source
 further_with table alias None fits C c =
     left (Commas C) (λ next ts. Joins C next ts ⊎ Inners C next ts) _ (sign symbol.Comma ∷ shape_name table.text ∷ shapes_given alias)
@@ -144,3 +145,54 @@ sources_read (first ∷ others) valid alone =
           (each ValidSource (λ s. Entry IsJoin (IsSource 32 never) (SameSource s) (shapes_further s.on s)) (λ s v. further_with s.table s.alias s.on v.on) others valid.each.1)
           (omega arith) (length others) refl (unplaced_source first ∷ []) (ap (λ y. y ∷ []) same) front e in
       record { value = r.value; good = r.good; reads = λ next w n. (length others, r.reads next w n) })
+
+-- [ WHERE cond ] and [ HAVING cond ]
+abbrev Conditioned : Symbol → Bool → Lang (Option Test)
+Conditioned s grouped next = Is (is s) (λ _. IsCondition grouped 32 never (λ cond. next (Some cond)))
+
+condition_read : (s : Symbol) (stands : Stands s (word s)) (grouped : Bool) (cond : Option Test) → Where (Fits grouped whole 32) cond
+    → Reading (λ next ts. next None ts ⊎ Conditioned s grouped next ts) (SameCondition cond) (shapes_condition (word s) cond)
+condition_read s stands grouped None fits = left (λ next. next None) (Conditioned s grouped) _ [] (pure (SameCondition None) None refl)
+condition_read s stands grouped (Some cond) fits =
+    right (λ next. next None) (Conditioned s grouped) _ (word s ∷ shapes_test cond)
+    (behind s (word s) stands (λ _ next. IsCondition grouped 32 never (λ c. next (Some c))) (SameCondition (Some cond)) (shapes_test cond)
+    (λ _ _. mapped (IsCondition grouped 32 never) (λ c. Some c) (SameTest cond) (SameCondition (Some cond)) (shapes_test cond) (fits_read grouped whole 32 cond fits) (λ y e. ap (λ x. Some x) e)))
+
+pub filter_read : (cond : Option Test) → Where (Fits false whole 32) cond → Reading (IsFilter 32 never) (SameCondition cond) (shapes_condition (word symbol.Where) cond)
+filter_read cond fits = condition_read symbol.Where stands_where false cond fits
+
+pub having_read : (cond : Option Test) → Where (Fits true whole 32) cond → Reading (IsHaving 32 never) (SameCondition cond) (shapes_condition (word symbol.Having) cond)
+having_read cond fits = condition_read symbol.Having stands_having true cond fits
+
+-- [ GROUP BY column { "," column } ] and [ ORDER BY key { "," key } ]
+abbrev By : {A : Type 0} → Symbol → Lang A → Lang (List A)
+By s P next = Is (is s) (λ _. Is (is symbol.By) (λ _. IsList never 64 P (is symbol.Comma) next))
+
+part_read : {A B : Type 0} (s : Symbol) (stands : Stands s (word s)) (P : Lang A) (u : A → B) (f : A → List Shape) (V : A → Type 0) → ((x : A) → V x → Reading P (λ y. u y ≡ u x) (f x)) → (xs : List A) → ValidPart 64 V xs
+    → Reading (λ next ts. next [] ts ⊎ By s P next ts) (λ r. map u r ≡ map u xs) (shapes_list (word s ∷ word symbol.By ∷ []) f xs)
+part_read s stands P u f V entry [] valid = left (λ next. next []) (By s P) _ [] (pure _ [] refl)
+part_read s stands P u f V entry (x ∷ xs) valid =
+    right (λ next. next []) (By s P) _ (word s ∷ word symbol.By ∷ between (sign symbol.Comma) (map f (x ∷ xs)))
+    (behind s (word s) stands (λ _ next. Is (is symbol.By) (λ _. IsList never 64 P (is symbol.Comma) next)) _ (word symbol.By ∷ between (sign symbol.Comma) (map f (x ∷ xs)))
+    (λ _ _. behind symbol.By (word symbol.By) stands_by (λ _ next. IsList never 64 P (is symbol.Comma) next) _ (between (sign symbol.Comma) (map f (x ∷ xs)))
+    (λ _ _. list_of 64 P symbol.Comma (sign symbol.Comma) stands_comma u f V entry (x ∷ xs) (omega arith) valid.within valid.each)))
+
+pub groups_read : (groups : List ColumnName) → ValidPart 64 ValidColumn groups → Reading (IsGroups never) (SameColumns groups) (shapes_list (word symbol.Group ∷ word symbol.By ∷ []) shapes_column groups)
+groups_read groups valid = part_read symbol.Group stands_group IsColumn unplaced_column shapes_column ValidColumn (λ c _. column_read c) groups valid
+
+direction_read : (descending : Bool) → Reading IsDirection (λ y. y ≡ descending) (if descending then word symbol.Desc ∷ [] else [])
+direction_read false = left (λ next. next false) (λ next ts. Is (is symbol.Asc) (λ _. next false) ts ⊎ Is (is symbol.Desc) (λ _. next true) ts) _ [] (pure _ false refl)
+direction_read true =
+    right (λ next. next false) (λ next ts. Is (is symbol.Asc) (λ _. next false) ts ⊎ Is (is symbol.Desc) (λ _. next true) ts) _ (word symbol.Desc ∷ [])
+    (right (λ next. Is (is symbol.Asc) (λ _. next false)) (λ next. Is (is symbol.Desc) (λ _. next true)) _ (word symbol.Desc ∷ [])
+    (behind symbol.Desc (word symbol.Desc) stands_desc (λ _ next. next true) _ [] (λ _ _. pure _ true refl)))
+
+key_read : (key : OrderItem) → Reading IsKey (SameKey key) (shapes_key key)
+unfolding shapes_key
+key_read key =
+    bind IsExpr (λ e next. IsDirection (λ down. next (record { expr = e; descending = down }))) (SameExpr key.expr) (SameKey key) (shapes_expr key.expr) (if key.descending then word symbol.Desc ∷ [] else []) (expr_read key.expr)
+    (λ e f. mapped IsDirection (λ down. record { expr = e; descending = down }) (λ y. y ≡ key.descending) (SameKey key) _ (direction_read key.descending)
+    (λ down g. ap (λ x. record { expr = x; descending = down }) f ∙ ap (λ x. record { expr = unplaced_expr key.expr; descending = x }) g))
+
+pub orders_read : (orders : List OrderItem) → ValidPart 64 (λ key. ValidExpr key.expr) orders → Reading (IsOrders never) (SameKeys orders) (shapes_list (word symbol.Order ∷ word symbol.By ∷ []) shapes_key orders)
+orders_read orders valid = part_read symbol.Order stands_order IsKey unplaced_key shapes_key (λ key. ValidExpr key.expr) (λ key _. key_read key) orders valid
