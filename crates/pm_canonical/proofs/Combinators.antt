@@ -1,5 +1,5 @@
 -- Languages that read tokens of given shapes.
-use Rattle.std.proofs.Common.{◌≡◌, ◌⊎◌, ◌≤◌, ◌+◌, ℕ, suc, zero, Bool, true, false, List, [], ◌∷◌, ◌++◌, length, map, refl, sym, ◌∙◌, ap, inl, inr, append_assoc, arith, length-append}
+use Rattle.std.proofs.Common.{◌≡◌, ◌⊎◌, ◌≤◌, ◌<◌, ◌+◌, ℕ, suc, zero, Bool, true, false, List, [], ◌∷◌, ◌++◌, length, map, refl, sym, ◌∙◌, ap, inl, inr, append_assoc, arith, length-append}
 use Rattle.std.specs.List.{flat_map}
 use Rattle.std.proofs.lemmas.List.{map-append, append-nil}
 use Rattle.pm_lexer.specs.declared.token.Token.{Token}
@@ -107,34 +107,53 @@ behind s h stands Q Better b q = bind (Is (is s)) Q (λ t. shape_of t ≡ h) Bet
 abbrev pub Entry : {A S : Type 0} → Lang S → (S → Lang A) → (A → Type 0) → List Shape → Type 1
 Entry Sep P Good shapes = (C : Type 0) → C → Reading (λ next. Sep (λ s ts. C × P s next ts)) Good shapes
 
+-- R is at hand for each
+abbrev pub Each : {A : Type 0} → (A → Type 1) → List A → Type 1
+Each R [] = Unit {1}
+Each R (x ∷ xs) = R x × Each R xs
+
+pub each : {A : Type 0} (V : A → Type 0) (R : A → Type 1) → ((x : A) → V x → R x) → (xs : List A) → Every V xs → Each R xs
+each V R f [] all = tt
+each V R f (x ∷ xs) all = (f x all.0, each V R f xs all.1)
+
 -- further entries
-pub more_read : {A B S : Type 0} (limit : ℕ) (Sep : Lang S) (P : S → Lang A) (u : A → B) (f : A → List Shape) (V : A → Type 0) → ((x : A) → V x → Entry Sep P (λ y. u y ≡ u x) (f x))
-    → (before : List A) (xs : List A) → Every V xs → length before + length xs ≤ limit → (n : ℕ) → n ≡ length xs
+pub more_read : {A B S : Type 0} (limit : ℕ) (Sep : Lang S) (P : S → Lang A) (u : A → B) (f : A → List Shape)
+    → (before : List A) (xs : List A) → Each (λ x. Entry Sep P (λ y. u y ≡ u x) (f x)) xs → length before + length xs ≤ limit → (n : ℕ) → n ≡ length xs
     → (done : List B) → map u before ≡ done
     → Reading (IsMore never limit Sep P n before) (λ r. map u r ≡ done ++ map u xs) (flat_map f xs)
 unfolding IsMore
-more_read limit Sep P u f V entry before [] all fits zero e done is = pure (λ r. map u r ≡ done ++ []) before (is ∙ sym (append-nil done))
-more_read limit Sep P u f V entry before [] all fits (suc n) e done is = absurd (omega arith)
-more_read limit Sep P u f V entry before (x ∷ xs) all fits zero e done is = absurd (omega arith)
-more_read {A} {B} {S} limit Sep P u f V entry before (x ∷ xs) all fits (suc n) e done is =
+more_read limit Sep P u f before [] all fits zero e done is = pure (λ r. map u r ≡ done ++ []) before (is ∙ sym (append-nil done))
+more_read limit Sep P u f before [] all fits (suc n) e done is = absurd (omega arith)
+more_read limit Sep P u f before (x ∷ xs) all fits zero e done is = absurd (omega arith)
+more_read {A} {B} {S} limit Sep P u f before (x ∷ xs) all fits (suc n) e done is =
     bind (λ next. Sep (λ s ts. (limit ≤ length before → ⊥) × P s next ts)) (λ a. IsMore never limit Sep P n (before ++ a ∷ [])) (λ y. u y ≡ u x) (λ r. map u r ≡ done ++ map u (x ∷ xs)) (f x) (flat_map f xs)
-    (entry x all.0 (limit ≤ length before → ⊥) (λ le. omega arith))
+    (all.0 (limit ≤ length before → ⊥) (λ le. omega arith))
     (λ a same. better _ (λ r. map u r ≡ (done ++ u x ∷ []) ++ map u xs) (λ r. map u r ≡ done ++ map u (x ∷ xs)) _ (λ r g. g ∙ append_assoc done (u x ∷ []) (map u xs))
-        (more_read limit Sep P u f V entry (before ++ a ∷ []) xs all.1 (omega (arith, length-append before (a ∷ []))) n (omega arith) (done ++ u x ∷ []) (map-append u before (a ∷ []) ∙ rw (is, same) refl)))
+        (more_read limit Sep P u f (before ++ a ∷ []) xs all.1 (omega (arith, length-append before (a ∷ []))) n (omega arith) (done ++ u x ∷ []) (map-append u before (a ∷ []) ∙ rw (is, same) refl)))
 
 between_is : {A : Type 0} (sep : Shape) (f : A → List Shape) (x : A) (xs : List A) → between sep (map f (x ∷ xs)) ≡ f x ++ flat_map (λ y. sep ∷ f y) xs
 between_is sep f x [] = sym (append-nil (f x))
 between_is sep f x (y ∷ ys) = ap (λ t. f x ++ sep ∷ t) (between_is sep f y ys)
 
+-- an entry behind its separator
+entry_behind : {A B : Type 0} (P : Lang A) (s : Symbol) (h : Shape) → Stands s h → (u : A → B) (f : A → List Shape) (xs : List A) → Each (λ x. Reading P (λ y. u y ≡ u x) (f x)) xs
+    → Each (λ x. Entry (Is (is s)) (λ _. P) (λ y. u y ≡ u x) (h ∷ f x)) xs
+entry_behind P s h stands u f [] all = tt
+entry_behind P s h stands u f (x ∷ xs) all =
+    (λ C c. behind s h stands (λ _ next ts. C × P next ts) (λ z. u z ≡ u x) (f x) (λ t _. given P (λ z. u z ≡ u x) (f x) C c all.0), entry_behind P s h stands u f xs all.1)
+
 -- a list with separators
-pub list_read : {A B : Type 0} (limit : ℕ) (P : Lang A) (s : Symbol) (h : Shape) → Stands s h → (u : A → B) (f : A → List Shape) (V : A → Type 0) → ((x : A) → V x → Reading P (λ y. u y ≡ u x) (f x))
-    → (x : A) (xs : List A) → Every V (x ∷ xs) → length (x ∷ xs) ≤ limit
-    → Reading (IsList never limit P (is s)) (λ r. map u r ≡ map u (x ∷ xs)) (between h (map f (x ∷ xs)))
-list_read {A} limit P s h stands u f V entry x xs all fits =
+pub list_read : {A B : Type 0} (limit : ℕ) (P : Lang A) (s : Symbol) (h : Shape) → Stands s h → (u : A → B) (f : A → List Shape) (xs : List A) → Each (λ x. Reading P (λ y. u y ≡ u x) (f x)) xs → 0 < length xs → length xs ≤ limit
+    → Reading (IsList never limit P (is s)) (λ r. map u r ≡ map u xs) (between h (map f xs))
+list_read limit P s h stands u f [] all some fits = absurd (omega arith)
+list_read limit P s h stands u f (x ∷ xs) all some fits =
     shaped _ _ _ _ (sym (between_is h f x xs))
-    (bind P (λ a. IsFurther never limit (Is (is s)) (λ _. P) (a ∷ [])) (λ y. u y ≡ u x) (λ r. map u r ≡ map u (x ∷ xs)) (f x) (flat_map (λ y. h ∷ f y) xs) (entry x all.0)
+    (bind P (λ a. IsFurther never limit (Is (is s)) (λ _. P) (a ∷ [])) (λ y. u y ≡ u x) (λ r. map u r ≡ map u (x ∷ xs)) (f x) (flat_map (λ y. h ∷ f y) xs) all.0
     (λ a same front e.
-      let r = more_read limit (Is (is s)) (λ _. P) u (λ y. h ∷ f y) V
-          (λ y v C c. behind s h stands (λ _ next ts. C × P next ts) (λ z. u z ≡ u y) (f y) (λ t _. given P (λ z. u z ≡ u y) (f y) C c (entry y v)))
-          (a ∷ []) xs all.1 (omega arith) (length xs) refl (u x ∷ []) (rw same refl) front e in
+      let r = more_read limit (Is (is s)) (λ _. P) u (λ y. h ∷ f y) (a ∷ []) xs (entry_behind P s h stands u f xs all.1) (omega arith) (length xs) refl (u x ∷ []) (rw same refl) front e in
       record { value = r.value; good = r.good; reads = λ next w n. (length xs, r.reads next w n) }))
+
+pub list_of : {A B : Type 0} (limit : ℕ) (P : Lang A) (s : Symbol) (h : Shape) → Stands s h → (u : A → B) (f : A → List Shape) (V : A → Type 0) → ((x : A) → V x → Reading P (λ y. u y ≡ u x) (f x))
+    → (xs : List A) → 0 < length xs → length xs ≤ limit → Every V xs
+    → Reading (IsList never limit P (is s)) (λ r. map u r ≡ map u xs) (between h (map f xs))
+list_of limit P s h stands u f V entry xs some fits all = list_read limit P s h stands u f xs (each V (λ x. Reading P (λ y. u y ≡ u x) (f x)) entry xs all) some fits

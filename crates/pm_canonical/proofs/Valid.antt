@@ -101,7 +101,7 @@ mutual
     any_in_or : (d : ℕ) (members : List Test) → Fits grouped whole d (test.Any members) → Fits grouped in_or (suc d) (test.Any members)
     any_in_and : (d : ℕ) (members : List Test) → Fits grouped whole d (test.Any members) → Fits grouped in_and (suc d) (test.Any members)
     all_list : (d : ℕ) (members : List Test) → 2 ≤ length members → length members ≤ 256 → FitsEach grouped in_and d members → Fits grouped whole d (test.All members)
-    all_in_or : (d : ℕ) (members : List Test) → Fits grouped whole d (test.All members) → Fits grouped in_or d (test.All members)
+    all_in_or : (d : ℕ) (members : List Test) → 2 ≤ length members → length members ≤ 256 → FitsEach grouped in_and d members → Fits grouped in_or d (test.All members)
     all_in_and : (d : ℕ) (members : List Test) → Fits grouped whole d (test.All members) → Fits grouped in_and (suc d) (test.All members)
 
   pub data FitsEach (grouped : Bool) : Role → ℕ → List Test → Type 0 where
