@@ -5,6 +5,7 @@ pub mod Formed
 pub mod Forming
 pub mod Heads
 pub mod Joining
+pub mod Law
 pub mod LeafReadings
 pub mod NameReadings
 pub mod Numbers
