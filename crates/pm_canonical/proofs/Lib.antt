@@ -17,3 +17,4 @@ pub mod LeafReadings
 pub mod TestReadings
 pub mod PartsReadings
 pub mod ReadsBack
+pub mod Placeless
