@@ -11,6 +11,7 @@ pub mod NameReadings
 pub mod Numbers
 pub mod OperandReadings
 pub mod PartsReadings
+pub mod Placeless
 pub mod Points
 pub mod Quoting
 pub mod ReadsBack
