@@ -88,11 +88,11 @@ closing q (b ∷ []) n e =
 closing q (b ∷ c ∷ rest) n e =
     cond_both (b == q) (if c == q then longer 2 (quotation q rest) else Some 0) (longer 1 (quotation q (c ∷ rest))) (λ o. o ≡ Some n → Closing q (b ∷ c ∷ rest) n)
     (λ same. cond_both (c == q) (longer 2 (quotation q rest)) (Some 0) (λ o. o ≡ Some n → Closing q (b ∷ c ∷ rest) n)
-        (λ _ h. elim (quotation q rest) as (λ o. ((m : ℕ) → o ≡ Some m → Closing q rest m) → longer 2 o ≡ Some n → Closing q (b ∷ c ∷ rest) n) [
-          | None ↦ λ _ h. absurd (cc h)
-          | Some m ↦ λ ih h. let r = ih m refl in record { front = b ∷ (c ∷ r.front); rest = r.rest; is = ap (λ t. b ∷ (c ∷ t)) r.is; long = (let s = closing_longer 2 m n h in omega (arith, r.long, s)) }
-        ] (λ m h. closing q rest m h) h)
-        (λ _ h. record { front = []; rest = c ∷ rest; is = rw (eqb-true b q same) refl; long = (let z : 0 ≡ n = cc h in z) }))
+    (λ _ h. elim (quotation q rest) as (λ o. ((m : ℕ) → o ≡ Some m → Closing q rest m) → longer 2 o ≡ Some n → Closing q (b ∷ c ∷ rest) n) [
+      | None ↦ λ _ h. absurd (cc h)
+      | Some m ↦ λ ih h. let r = ih m refl in record { front = b ∷ (c ∷ r.front); rest = r.rest; is = ap (λ t. b ∷ (c ∷ t)) r.is; long = (let s = closing_longer 2 m n h in omega (arith, r.long, s)) }
+    ] (λ m h. closing q rest m h) h)
+    (λ _ h. record { front = []; rest = c ∷ rest; is = rw (eqb-true b q same) refl; long = (let z : 0 ≡ n = cc h in z) }))
     (λ _ h. elim (quotation q (c ∷ rest)) as (λ o. ((m : ℕ) → o ≡ Some m → Closing q (c ∷ rest) m) → longer 1 o ≡ Some n → Closing q (b ∷ c ∷ rest) n) [
       | None ↦ λ _ h. absurd (cc h)
       | Some m ↦ λ ih h. let r = ih m refl in record { front = b ∷ r.front; rest = r.rest; is = ap (λ t. b ∷ t) r.is; long = (let s = closing_longer 1 m n h in omega (arith, r.long, s)) }

@@ -109,7 +109,7 @@ quoted_len q xs = omega (arith, length-append (doubled q xs) (q ∷ []))
 pub quoted_opens : (name : List ℕ) → 0 < length name → length name ≤ 64 → Every (λ b. is_ascii_control b ≡ false) name → (rest : List ℕ) → Follows stops rest → Opens kind.Quoted (quoted 34 name) rest
 quoted_opens name some short clean rest after at =
     let shown : position is_ascii_control (doubled 34 name) ≡ None =
-        position_from-zero is_ascii_control (doubled 34 name) ∙ none_shown 0 (doubled 34 name) (all_doubled (λ b. not (is_ascii_control b)) 34 name (all_shown name clean)) in
+    position_from-zero is_ascii_control (doubled 34 name) ∙ none_shown 0 (doubled 34 name) (all_doubled (λ b. not (is_ascii_control b)) 34 name (all_shown name clean)) in
     let long : nat_lt 64 (length (single_quotes 34 (doubled 34 name))) ≡ false = rw (single_doubled 34 name) (le-ltb 64 (length name) short) in
     let filled : (length (doubled 34 name) == 0) ≡ false = ne_eqb _ 0 (λ h. let s = some_doubled 34 name some in omega arith) in
     ap (head_of at) (quoted_slice 34 name rest) ∙ head_is_quoted at (doubled 34 name ++ 34 ∷ rest)

@@ -120,7 +120,7 @@ spells_statement s valid =
     let groups_first = follows_append ends (canon_list (codes " GROUP BY ") canon_column s.groups) _ (list_first canon_column (codes " GROUP BY ") (λ rest. refl) s.groups) having_first in
     let filter_first = follows_append ends (canon_condition (codes " WHERE ") s.filter) _ (condition_first (codes " WHERE ") (λ rest. refl) s.filter) groups_first in
     rw (nine (codes "SELECT ") (if s.distinct then codes "DISTINCT " else []) (canon_items s.items) (codes " FROM ") (canon_sources s.sources) (canon_condition (codes " WHERE ") s.filter)
-        (canon_list (codes " GROUP BY ") canon_column s.groups) (canon_condition (codes " HAVING ") s.having) (canon_list (codes " ORDER BY ") canon_key s.orders))
+    (canon_list (codes " GROUP BY ") canon_column s.groups) (canon_condition (codes " HAVING ") s.having) (canon_list (codes " ORDER BY ") canon_key s.orders))
     (spells_after spells_select (spells_after (spells_distinct_part s.distinct) (spells_both (spells_items s.items valid.items) (spells_after spells_from (spells_then (spells_sources s.sources valid.sources.each)
     (spells_then filter (spells_then groups (spells_then having orders orders_first) having_first) groups_first) filter_first)) (λ rest after. refl))))
 

@@ -24,10 +24,11 @@ Opens k slice rest = (at : ℕ) → head_of at (slice ++ rest) ≡ Ok (head.Piec
 
 pub lexes_piece : (k : TokenKind) (slice rest : List ℕ) (shapes : List Shape) → 0 < length slice → Opens k slice rest → Lexes rest shapes → Lexes (slice ++ rest) (record { kind = k; slice = slice } ∷ shapes)
 lexes_piece k slice rest shapes some opens lexes at =
-    let (tokens, is, shaped) = lexes (at + length slice) in
-    (record { kind = k; slice = slice; at = at } ∷ tokens,
-    walk_piece k (length slice) at (slice ++ rest) some (omega (arith, length-append slice rest)) (opens at) ∙ rw (take-append_seam slice rest, drop-append_seam slice rest, is) refl,
-    ap (λ t. record { kind = k; slice = slice } ∷ t) shaped)
+    let (tokens, is, shaped) = lexes (at + length slice) in (
+      record { kind = k; slice = slice; at = at } ∷ tokens,
+      walk_piece k (length slice) at (slice ++ rest) some (omega (arith, length-append slice rest)) (opens at) ∙ rw (take-append_seam slice rest, drop-append_seam slice rest, is) refl,
+      ap (λ t. record { kind = k; slice = slice } ∷ t) shaped,
+    )
 
 gap_head : (at : ℕ) (rest : List ℕ) → head_of at (32 ∷ rest) ≡ Ok (head.Gap 1)
 unfolding head_of

@@ -3,11 +3,11 @@ ghost use Rattle.std.specs.List.{flat_map};
 ghost use Rattle.pm_canonical.specs.Canon.{canon_literal, canon_atom, canon_given, canon_item, canon_items, canon_source, canon_further, canon_sources, canon_condition, canon_list, canon, canon_key, joined, behind, negation, canon_comparison, canon_test, text_of, member_of, separator, is_wrapped};
 
 use crate::numerals::put_number;
+use crate::words::{comparison_word, put_column, put_expr, put_name, put_quoted};
 use pm_syntax::{
     Atom, ColumnName, Comparison, Item, Items, Literal, Literals, OrderItem, PlacedName, Select,
     Source, Test,
 };
-use crate::words::{comparison_word, put_column, put_expr, put_name, put_quoted};
 use pm_values::Txt;
 use std::alloc::{AllocError, Global};
 
@@ -388,7 +388,8 @@ fn put_select(out: &mut String, select: &Select) -> Result<(), AllocError>
 }
 
 /// The canonical text of a statement: reserved words and function names in capitals, one space between tokens, and
-/// parentheses only where a list stands in a list that binds as tight. The form is this project's own.
+/// parentheses only where a list stands in a list that binds as tight. The form is this project's own. It is read back
+/// as the statement: `canonical_text_is_read_back`.
 pub fn print(alloc: Global, select: &Select) -> Result<Txt, AllocError>
     ensures { IfOk result (λ text. text ≡ canon select.now) }
 {

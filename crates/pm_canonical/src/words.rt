@@ -5,8 +5,8 @@ ghost use Rattle.pm_lexer.specs.Symbol.{reserved_word};
 ghost use Rattle.pm_canonical.specs.Canon.{doubled, quoted, is_plain, canon_name, canon_alias, canon_column, canon_func, canon_expr, canon_number, canon_literal, canon_atom, canon_comparison, canon_given, pointed};
 ghost use Rattle.pm_lexer.specs.Pieces.{NoneBefore, IsFirst};
 
-use pm_syntax::{ColumnName, Comparison, Expr, Func, PlacedName};
 use pm_lexer::Symbol;
+use pm_syntax::{ColumnName, Comparison, Expr, Func, PlacedName};
 use pm_values::Txt;
 use std::alloc::{AllocError, Global};
 
