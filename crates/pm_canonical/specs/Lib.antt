@@ -1,3 +1,4 @@
 pub mod Canon
-pub mod Shapes
+pub mod ReadBack
 pub mod Same
+pub mod Shapes
