@@ -24,3 +24,5 @@ pub mod TestReadings
 pub mod Valid
 pub mod Values
 pub mod Wording
+pub mod Sound
+pub mod ValidNames
