@@ -16,6 +16,7 @@ pub mod Points
 pub mod Quoting
 pub mod ReadsBack
 pub mod Runs
+pub mod Sound
 pub mod Spelled
 pub mod SpelledSelect
 pub mod SpelledTests
@@ -23,5 +24,6 @@ pub mod Spelling
 pub mod Standing
 pub mod TestReadings
 pub mod Valid
+pub mod ValidNames
 pub mod Values
 pub mod Wording

@@ -159,12 +159,12 @@ mutual
   fits_read grouped _ _ _ (leaf role d t valid) = leaf_at grouped role d t valid
   fits_read grouped _ _ _ (negated role d t part) = not_at grouped role d t (fits_read grouped in_and d t part)
   fits_read grouped _ _ _ (any_list d members two most all) = any_read grouped d members two most (each_read grouped in_or d members all)
-  fits_read grouped _ _ _ (any_in_or d members p) =
-      part_and grouped (suc d) _ _ (shaped (Part grouped (suc d)) _ _ _ (in_parens_any members true) (part_parens grouped d _ _ (fits_read grouped whole d (test.Any members) p)))
-  fits_read grouped _ _ _ (any_in_and d members p) = shaped (Part grouped (suc d)) _ _ _ (in_parens_any members false) (part_parens grouped d _ _ (fits_read grouped whole d (test.Any members) p))
+  fits_read grouped _ _ _ (any_in_or d members two most all) =
+      part_and grouped (suc d) _ _ (shaped (Part grouped (suc d)) _ _ _ (in_parens_any members true) (part_parens grouped d _ _ (any_read grouped d members two most (each_read grouped in_or d members all))))
+  fits_read grouped _ _ _ (any_in_and d members two most all) = shaped (Part grouped (suc d)) _ _ _ (in_parens_any members false) (part_parens grouped d _ _ (any_read grouped d members two most (each_read grouped in_or d members all)))
   fits_read grouped _ _ _ (all_list d members two most all) = cond grouped d _ _ (all_read grouped d members two most (each_read grouped in_and d members all))
   fits_read grouped _ _ _ (all_in_or d members two most all) = shaped (PartAnd grouped d) _ _ _ (all_bare members) (all_read grouped d members two most (each_read grouped in_and d members all))
-  fits_read grouped _ _ _ (all_in_and d members p) = shaped (Part grouped (suc d)) _ _ _ (in_parens_all members) (part_parens grouped d _ _ (fits_read grouped whole d (test.All members) p))
+  fits_read grouped _ _ _ (all_in_and d members two most all) = shaped (Part grouped (suc d)) _ _ _ (in_parens_all members) (part_parens grouped d _ _ (cond grouped d _ _ (all_read grouped d members two most (each_read grouped in_and d members all))))
 
   each_read : (grouped : Bool) (role : Role) (d : ℕ) (members : List Test) → FitsEach grouped role d members → Each (Read grouped role d) members
   each_read grouped _ _ _ (no_members role d) = tt

@@ -98,11 +98,11 @@ mutual
     leaf : (role : Role) (d : ℕ) (t : Test) → ValidLeaf grouped t → Fits grouped role d t
     negated : (role : Role) (d : ℕ) (t : Test) → Fits grouped in_and d t → Fits grouped role (suc d) (test.Not t)
     any_list : (d : ℕ) (members : List Test) → 2 ≤ length members → length members ≤ 256 → FitsEach grouped in_or d members → Fits grouped whole d (test.Any members)
-    any_in_or : (d : ℕ) (members : List Test) → Fits grouped whole d (test.Any members) → Fits grouped in_or (suc d) (test.Any members)
-    any_in_and : (d : ℕ) (members : List Test) → Fits grouped whole d (test.Any members) → Fits grouped in_and (suc d) (test.Any members)
+    any_in_or : (d : ℕ) (members : List Test) → 2 ≤ length members → length members ≤ 256 → FitsEach grouped in_or d members → Fits grouped in_or (suc d) (test.Any members)
+    any_in_and : (d : ℕ) (members : List Test) → 2 ≤ length members → length members ≤ 256 → FitsEach grouped in_or d members → Fits grouped in_and (suc d) (test.Any members)
     all_list : (d : ℕ) (members : List Test) → 2 ≤ length members → length members ≤ 256 → FitsEach grouped in_and d members → Fits grouped whole d (test.All members)
     all_in_or : (d : ℕ) (members : List Test) → 2 ≤ length members → length members ≤ 256 → FitsEach grouped in_and d members → Fits grouped in_or d (test.All members)
-    all_in_and : (d : ℕ) (members : List Test) → Fits grouped whole d (test.All members) → Fits grouped in_and (suc d) (test.All members)
+    all_in_and : (d : ℕ) (members : List Test) → 2 ≤ length members → length members ≤ 256 → FitsEach grouped in_and d members → Fits grouped in_and (suc d) (test.All members)
 
   pub data FitsEach (grouped : Bool) : Role → ℕ → List Test → Type 0 where
     no_members : (role : Role) (d : ℕ) → FitsEach grouped role d []
