@@ -1,5 +1,6 @@
 pub mod Combinators
 pub mod Doubling
+pub mod FitsMore
 pub mod Folds
 pub mod Formed
 pub mod Forming
@@ -25,5 +26,6 @@ pub mod Standing
 pub mod TestReadings
 pub mod Valid
 pub mod ValidNames
+pub mod ValidTests
 pub mod Values
 pub mod Wording

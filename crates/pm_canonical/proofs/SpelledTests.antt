@@ -149,13 +149,8 @@ mutual
   spells_fits grouped _ _ _ (Fits.all_list d members two most each) = all_spelled members (spells_each grouped Role.in_and d members each)
   spells_fits grouped _ _ _ (Fits.all_in_or d members two most each) =
       unwrapped true (text_of (test.All members)) (phrase_of (test.All members)) (ap (is_wrapped true) (fold_all canon_layer members)) (ap (in_parens true) (fold_all shapes_layer members)) (all_spelled members (spells_each grouped Role.in_and d members each))
-<<<<<<< HEAD
-  spells_fits grouped _ _ _ (Fits.all_in_and d members fits) =
-      wrapped false (text_of (test.All members)) (phrase_of (test.All members)) (ap (is_wrapped false) (fold_all canon_layer members)) (ap (in_parens false) (fold_all shapes_layer members)) (spells_fits grouped Role.whole d (test.All members) fits)
-=======
   spells_fits grouped _ _ _ (Fits.all_in_and d members two most each) =
       wrapped false (text_of (test.All members)) (phrase_of (test.All members)) (ap (is_wrapped false) (fold_all canon_layer members)) (ap (in_parens false) (fold_all shapes_layer members)) (all_spelled members (spells_each grouped Role.in_and d members each))
->>>>>>> d735a8658fafc4265cc1fb7b985aefc085c67277
 
   pub spells_each : (grouped : Bool) (role : Role) (d : ℕ) (ts : List Test) → FitsEach grouped role d ts → Every (SpellsAs role) ts
   spells_each grouped _ _ _ (FitsEach.no_members role d) = tt
