@@ -26,3 +26,4 @@ pub mod Values
 pub mod Wording
 pub mod Sound
 pub mod ValidNames
+pub mod ValidReads
