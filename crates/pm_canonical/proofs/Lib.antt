@@ -26,6 +26,7 @@ pub mod Standing
 pub mod TestReadings
 pub mod Valid
 pub mod ValidNames
+pub mod ValidReads
 pub mod ValidTests
 pub mod Values
 pub mod Wording
