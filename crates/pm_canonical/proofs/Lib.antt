@@ -27,3 +27,4 @@ pub mod Wording
 pub mod Sound
 pub mod ValidNames
 pub mod ValidReads
+pub mod ValidTests
