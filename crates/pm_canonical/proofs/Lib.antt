@@ -28,3 +28,4 @@ pub mod Sound
 pub mod ValidNames
 pub mod ValidReads
 pub mod ValidTests
+pub mod ValidSelect
