@@ -28,5 +28,4 @@ pub mod Valid
 pub mod ValidNames
 pub mod ValidReads
 pub mod ValidTests
-pub mod Values
-pub mod Wording
+pub mod ValidSelect
