@@ -1,6 +1,5 @@
 pub mod Combinators
 pub mod Doubling
-pub mod FitsMore
 pub mod Folds
 pub mod Formed
 pub mod Forming
@@ -27,5 +26,7 @@ pub mod TestReadings
 pub mod Valid
 pub mod ValidNames
 pub mod ValidReads
-pub mod ValidTests
 pub mod ValidSelect
+pub mod ValidTests
+pub mod Values
+pub mod Wording
