@@ -1,11 +1,11 @@
 -- Languages that read tokens of given shapes.
-use Rattle.std.proofs.Common.{◌≡◌, ◌⊎◌, ◌≤◌, ◌<◌, ◌+◌, ℕ, suc, zero, Bool, true, false, List, [], ◌∷◌, ◌++◌, length, map, refl, sym, ◌∙◌, ap, inl, inr, append_assoc, arith, length-append}
+use Rattle.std.proofs.Common.{◌≡◌, ◌⊎◌, ◌≤◌, ◌<◌, ◌+◌, ℕ, suc, zero, Bool, true, List, [], ◌∷◌, ◌++◌, length, map, refl, sym, ◌∙◌, ap, inl, inr, append_assoc, arith, length-append}
 use Rattle.std.specs.List.{flat_map}
 use Rattle.std.proofs.lemmas.List.{map-append, append-nil}
 use Rattle.pm_lexer.specs.declared.token.Token.{Token}
 use Rattle.pm_lexer.specs.declared.symbol.Symbol.{Symbol}
 use Rattle.pm_lexer.specs.Symbol.{symbol_of, symbol_at, same_symbol, is}
-use Rattle.pm_lexer.specs.Language.{Lang, Is, Gate, never, Within, IsMore, IsFurther, IsList}
+use Rattle.pm_lexer.specs.Language.{Lang, Is, never, IsMore, IsFurther, IsList}
 use Rattle.pm_canonical.specs.Shapes.{Shape, shape_of, between}
 use Rattle.pm_canonical.proofs.Valid.{Every}
 
@@ -129,7 +129,7 @@ more_read {A} {B} {S} limit Sep P u f before (x ∷ xs) all fits (suc n) e done 
     bind (λ next. Sep (λ s ts. (limit ≤ length before → ⊥) × P s next ts)) (λ a. IsMore never limit Sep P n (before ++ a ∷ [])) (λ y. u y ≡ u x) (λ r. map u r ≡ done ++ map u (x ∷ xs)) (f x) (flat_map f xs)
     (all.0 (limit ≤ length before → ⊥) (λ le. omega arith))
     (λ a same. better _ (λ r. map u r ≡ (done ++ u x ∷ []) ++ map u xs) (λ r. map u r ≡ done ++ map u (x ∷ xs)) _ (λ r g. g ∙ append_assoc done (u x ∷ []) (map u xs))
-        (more_read limit Sep P u f (before ++ a ∷ []) xs all.1 (omega (arith, length-append before (a ∷ []))) n (omega arith) (done ++ u x ∷ []) (map-append u before (a ∷ []) ∙ rw (is, same) refl)))
+    (more_read limit Sep P u f (before ++ a ∷ []) xs all.1 (omega (arith, length-append before (a ∷ []))) n (omega arith) (done ++ u x ∷ []) (map-append u before (a ∷ []) ∙ rw (is, same) refl)))
 
 between_is : {A : Type 0} (sep : Shape) (f : A → List Shape) (x : A) (xs : List A) → between sep (map f (x ∷ xs)) ≡ f x ++ flat_map (λ y. sep ∷ f y) xs
 between_is sep f x [] = sym (append-nil (f x))
@@ -150,8 +150,8 @@ list_read limit P s h stands u f (x ∷ xs) all some fits =
     shaped _ _ _ _ (sym (between_is h f x xs))
     (bind P (λ a. IsFurther never limit (Is (is s)) (λ _. P) (a ∷ [])) (λ y. u y ≡ u x) (λ r. map u r ≡ map u (x ∷ xs)) (f x) (flat_map (λ y. h ∷ f y) xs) all.0
     (λ a same front e.
-      let r = more_read limit (Is (is s)) (λ _. P) u (λ y. h ∷ f y) (a ∷ []) xs (entry_behind P s h stands u f xs all.1) (omega arith) (length xs) refl (u x ∷ []) (rw same refl) front e in
-      record { value = r.value; good = r.good; reads = λ next w n. (length xs, r.reads next w n) }))
+    let r = more_read limit (Is (is s)) (λ _. P) u (λ y. h ∷ f y) (a ∷ []) xs (entry_behind P s h stands u f xs all.1) (omega arith) (length xs) refl (u x ∷ []) (rw same refl) front e in
+    record { value = r.value; good = r.good; reads = λ next w n. (length xs, r.reads next w n) }))
 
 pub list_of : {A B : Type 0} (limit : ℕ) (P : Lang A) (s : Symbol) (h : Shape) → Stands s h → (u : A → B) (f : A → List Shape) (V : A → Type 0) → ((x : A) → V x → Reading P (λ y. u y ≡ u x) (f x))
     → (xs : List A) → 0 < length xs → length xs ≤ limit → Every V xs

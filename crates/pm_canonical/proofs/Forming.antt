@@ -1,11 +1,10 @@
 -- Every token of a text is formed as its kind says.
-use Rattle.std.proofs.Common.{◌≡◌, ◌<◌, ◌≤◌, ◌+◌, ◌-◌, ℕ, suc, zero, Bool, true, false, not, List, [], ◌∷◌, ◌++◌, length, take, drop, All, Option, Some, None, Result, Ok, Err, cond, if◌then◌else◌, ◌==◌, ◌&&◌, ◌||◌, nat_lt, nat_le, nat_eq, codes, refl, sym, ◌∙◌, ap, arith, length-append}
+use Rattle.std.proofs.Common.{◌≡◌, ◌<◌, ◌≤◌, ◌+◌, ◌-◌, ℕ, suc, zero, Bool, true, false, not, List, [], ◌∷◌, ◌++◌, length, take, All, Some, None, Result, Ok, Err, cond, if◌then◌else◌, ◌==◌, ◌&&◌, ◌||◌, nat_lt, nat_le, nat_eq, codes, refl, sym, ◌∙◌, ap, arith}
 use Rattle.std.specs.List.{prefix_len, list_all, starts_with, position, position_from}
 use Rattle.std.specs.Option.{is_some}
 use Rattle.std.specs.Char.{is_ascii_digit, is_ascii_control}
-use Rattle.std.proofs.lemmas.Bool.{cond_both, and_from, eqb-true, eqb-false, ltb-false, or_parts, not-true, not_from_false}
+use Rattle.std.proofs.lemmas.Bool.{cond_both, and_from, eqb-true, eqb-false, not-true, not_from_false}
 use Rattle.std.proofs.lemmas.Bool.Decides.{nat_tests}
-use Rattle.std.proofs.lemmas.List.{append_assoc}
 use Rattle.std.proofs.lemmas.List.Elements.{All-nil, All-cons}
 use Rattle.std.proofs.lemmas.List.Folds.{length-prefix_len}
 use Rattle.std.proofs.lemmas.Iterator.Adapters.{position_from-zero}
@@ -16,13 +15,13 @@ use Rattle.pm_lexer.specs.declared.token.TokenKind.TheVariants as kind
 use Rattle.pm_lexer.specs.declared.fault.LexBad.{LexBad}
 use Rattle.pm_lexer.specs.declared.head.Head.{Head}
 use Rattle.pm_lexer.specs.declared.head.Head.TheVariants as head
-use Rattle.pm_lexer.specs.Byte.{is_blank, is_letter, is_word, is_inline}
-use Rattle.pm_lexer.specs.Pieces.{whole_len, decimals_len, number_len, longer, quotation, single_quotes, inside, content_at}
+use Rattle.pm_lexer.specs.Byte.{is_blank, is_letter, is_word}
+use Rattle.pm_lexer.specs.Pieces.{whole_len, decimals_len, longer, quotation, single_quotes, content_at}
 use Rattle.pm_lexer.specs.Symbol.{reserved_word, sign_of}
 use Rattle.pm_lexer.specs.Head.{name_at, number_at, named_at, closed_name_at, plain_at, quoted_at, closed_text_at, text_at, sign_at, head_of}
 use Rattle.pm_lexer.specs.Tokens.{before, end_token, tokens_behind, tokens_of}
 use Rattle.pm_canonical.proofs.Valid.{Every}
-use Rattle.pm_canonical.proofs.Formed.{IsPlainName, IsQuotedName, IsNumber, IsFormedAt, IsFormed}
+use Rattle.pm_canonical.proofs.Formed.{IsPlainName, IsFormedAt, IsFormed}
 use Rattle.pm_canonical.proofs.Runs.{run_all, all_head, all_tail}
 use Rattle.pm_canonical.proofs.Numbers.{number_at_formed}
 use Rattle.pm_canonical.proofs.Quoting.{inside_quotes, all_single, some_single}

@@ -1,6 +1,6 @@
 -- What stands at the head of a text, for each kind of token.
-use Rattle.std.proofs.Common.{◌≡◌, ◌<◌, ◌≤◌, ◌+◌, ◌-◌, ℕ, suc, zero, Bool, true, false, not, List, [], ◌∷◌, ◌++◌, length, take, Option, Some, None, Result, Ok, Err, if◌then◌else◌, ◌==◌, ◌&&◌, ◌||◌, nat_lt, nat_eq, codes, refl, sym, ◌∙◌, ap, arith, length-append}
-use Rattle.std.specs.List.{prefix_len, list_all, starts_with, position, position_from}
+use Rattle.std.proofs.Common.{◌≡◌, ◌<◌, ◌≤◌, ◌+◌, ℕ, Bool, true, false, not, List, [], ◌∷◌, ◌++◌, length, Some, None, Ok, if◌then◌else◌, ◌==◌, ◌&&◌, ◌||◌, nat_lt, nat_eq, codes, refl, sym, ◌∙◌, ap, arith, length-append}
+use Rattle.std.specs.List.{list_all, starts_with, position, position_from}
 use Rattle.std.specs.Option.{is_some}
 use Rattle.std.specs.Char.{is_ascii_digit, is_ascii_control}
 use Rattle.std.proofs.lemmas.Bool.{and_left, and_parts, ne_eqb, le-ltb, or_from}
@@ -9,13 +9,11 @@ use Rattle.std.proofs.lemmas.List.{append_assoc}
 use Rattle.std.proofs.lemmas.Iterator.Adapters.{position_from-zero}
 use Rattle.std.proofs.Math.Seq.{take-append_seam}
 use Rattle.pm_lexer.specs.declared.token.TokenKind.TheVariants as kind
-use Rattle.pm_lexer.specs.declared.fault.LexBad.{LexBad}
-use Rattle.pm_lexer.specs.declared.head.Head.{Head}
 use Rattle.pm_lexer.specs.declared.head.Head.TheVariants as head
 use Rattle.pm_lexer.specs.Byte.{is_blank, is_letter, is_word}
-use Rattle.pm_lexer.specs.Pieces.{whole_len, decimals_len, number_len, quotation, single_quotes}
+use Rattle.pm_lexer.specs.Pieces.{whole_len, decimals_len, number_len, single_quotes}
 use Rattle.pm_lexer.specs.Symbol.{reserved_word}
-use Rattle.pm_lexer.specs.Head.{name_at, number_at, named_at, closed_name_at, plain_at, quoted_at, closed_text_at, text_at, head_of}
+use Rattle.pm_lexer.specs.Head.{name_at, number_at, named_at, quoted_at, text_at, head_of}
 use Rattle.pm_canonical.specs.Canon.{doubled, quoted}
 use Rattle.pm_canonical.proofs.Valid.{Every}
 use Rattle.pm_canonical.proofs.Runs.{Follows, run_whole, follows_weaker, all_head}

@@ -1,5 +1,5 @@
 -- One entry more of a list with separators.
-use Rattle.std.proofs.Common.{◌≡◌, ◌<◌, ◌≤◌, ◌+◌, ℕ, suc, zero, Bool, true, false, List, [], ◌∷◌, ◌++◌, length, take, map, get_or, refl, sym, ◌∙◌, ap, arith, append_assoc, if◌then◌else◌, ◌==◌}
+use Rattle.std.proofs.Common.{◌≡◌, ◌<◌, ◌≤◌, ◌+◌, ℕ, suc, true, false, List, [], ◌∷◌, ◌++◌, length, take, map, get_or, refl, sym, ◌∙◌, ap, arith, append_assoc, if◌then◌else◌, ◌==◌}
 use Rattle.std.proofs.lemmas.List.{take_more, take_all, map-append, length-map, length-take}
 use Rattle.std.proofs.lemmas.Bool.{ne_eqb}
 use Rattle.pm_canonical.specs.Canon.{joined, behind}

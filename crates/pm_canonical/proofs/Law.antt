@@ -1,10 +1,9 @@
 -- Canonical text is read back.
-use Rattle.std.proofs.Common.{◌≡◌, ℕ, List, [], ◌∷◌, ◌++◌, map, All, Result, Ok, sym}
+use Rattle.std.proofs.Common.{◌≡◌, ℕ, List, Ok, sym}
 use Rattle.pm_lexer.specs.declared.token.Token.{Token}
 use Rattle.pm_lexer.specs.Tokens.{tokens_of}
 use Rattle.pm_syntax.specs.declared.tree.Select.{Select}
 use Rattle.pm_syntax.specs.Statement.{Reads}
-use Rattle.pm_canonical.specs.Canon.{canon}
 use Rattle.pm_canonical.specs.ReadBack.{ReadsBack}
 use Rattle.pm_canonical.proofs.Forming.{formed_tokens}
 use Rattle.pm_canonical.proofs.ValidSelect.{valid_read}

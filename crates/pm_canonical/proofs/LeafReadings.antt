@@ -1,5 +1,5 @@
 -- Tests that are no list and no NOT are read back.
-use Rattle.std.proofs.Common.{◌≡◌, ◌⊎◌, ◌<◌, ◌≤◌, ℕ, suc, zero, Bool, true, false, List, [], ◌∷◌, ◌++◌, length, map, Option, Some, None, is_some, unwrap_or, if◌then◌else◌, refl, sym, ◌∙◌, ap, arith}
+use Rattle.std.proofs.Common.{◌≡◌, ◌⊎◌, ℕ, Bool, true, false, List, [], ◌∷◌, ◌++◌, map, Option, Some, None, is_some, unwrap_or, if◌then◌else◌, refl, sym, ◌∙◌, ap}
 use Rattle.pm_lexer.specs.declared.token.Token.{Token}
 use Rattle.pm_lexer.specs.declared.symbol.Symbol.TheVariants as symbol
 use Rattle.pm_lexer.specs.Symbol.{is, symbol_of, symbol_at, canonical_sign}
@@ -14,8 +14,8 @@ use Rattle.pm_syntax.specs.Terminals.{comparison_of, comparison_of_symbol, compa
 use Rattle.pm_syntax.specs.Grammar.{IsLiteral, IsOperand, IsOptional, IsCompare, IsNullTest, IsIn, IsBetween, IsTest}
 use Rattle.pm_canonical.specs.Shapes.{Shape, shape_of, sign, word, between, shapes_literal, shapes_atom, shape_comparison, shapes_negation, shapes_layer, phrase_of, in_parens}
 use Rattle.pm_canonical.specs.Same.{unplaced_atom, unplaced_layer, unplaced_test}
-use Rattle.pm_canonical.proofs.Valid.{Every, ValidList, ValidLiteral, ValidAtom, ValidLeaf, compared, null_test, listed, ranged}
-use Rattle.pm_canonical.proofs.Combinators.{Reading, pure, shaped, better, mapped, left, right, bind, behind, token, symbol_token, stands_is, list_of}
+use Rattle.pm_canonical.proofs.Valid.{ValidList, ValidLiteral, ValidAtom, ValidLeaf, compared, null_test, listed, ranged}
+use Rattle.pm_canonical.proofs.Combinators.{Reading, pure, shaped, better, mapped, left, right, bind, behind, token, stands_is, list_of}
 use Rattle.pm_canonical.proofs.Standing.{stands_is as is_stands, stands_not, stands_null, stands_in, stands_open, stands_close, stands_comma, stands_between, stands_and}
 use Rattle.pm_canonical.proofs.Folds.{fold_compare, fold_null, fold_one_of, fold_between}
 use Rattle.pm_canonical.proofs.OperandReadings.{literal_read, operand_read}
@@ -71,7 +71,7 @@ compare_read grouped how l r at lv rv =
     (bind (Is compares) (λ t next. IsOperand grouped (λ y. next (test.Compare (unwrap_or (comparison_of t) comparison.Equal) x y t.at))) (λ t. shape_of t ≡ shape_comparison how) _ (shape_comparison how ∷ []) (shapes_atom r)
     (token compares (shape_comparison how) (λ t e. ap is_some (comparison_is how t e)))
     (λ t e. mapped (IsOperand grouped) (λ y. test.Compare (unwrap_or (comparison_of t) comparison.Equal) x y t.at) (SameAtom r) _ (shapes_atom r) (operand_read grouped r rv)
-        (λ y g. compared_same how l r at t x y e f g))))
+    (λ y g. compared_same how l r at t x y e f g))))
 
 not_read : (negated : Bool) → Reading (IsOptional (is symbol.Not)) (λ o. is_some o ≡ negated) (shapes_negation negated)
 not_read negated = optional_read (is symbol.Not) (word symbol.Not) (stands_is symbol.Not (word symbol.Not) stands_not) negated
@@ -85,7 +85,7 @@ null_read grouped of negated valid =
     (λ _ _. bind (IsOptional (is symbol.Not)) (λ o next. Is (is symbol.Null) (λ _. next (test.IsNull x (is_some o)))) (λ o. is_some o ≡ negated) _ (shapes_negation negated) (word symbol.Null ∷ []) (not_read negated)
     (λ o n. behind symbol.Null (word symbol.Null) stands_null (λ _ next. next (test.IsNull x (is_some o))) _ []
     (λ _ _. pure _ (test.IsNull x (is_some o))
-        (fold_null unplaced_layer x (is_some o) ∙ ap (λ a. test.IsNull a (is_some o)) f ∙ ap (λ b. test.IsNull (unplaced_atom of) b) n ∙ sym (fold_null unplaced_layer of negated))))))))
+    (fold_null unplaced_layer x (is_some o) ∙ ap (λ a. test.IsNull a (is_some o)) f ∙ ap (λ b. test.IsNull (unplaced_atom of) b) n ∙ sym (fold_null unplaced_layer of negated))))))))
 
 map_same : {A : Type 0} (xs : List A) → map (λ x. x) xs ≡ xs
 map_same [] = refl
@@ -111,15 +111,15 @@ one_of_read grouped of list negated at valid literals =
     negated_read grouped of negated (test.OneOf of list negated at) _ valid
     (λ x o f n. left (IsIn never x o) (IsBetween grouped x o) _ (word symbol.In ∷ sign symbol.Open ∷ between (sign symbol.Comma) (map shapes_literal list) ++ sign symbol.Close ∷ [])
     (behind symbol.In (word symbol.In) stands_in (λ w next. Is (is symbol.Open) (λ _. IsList never 256 IsLiteral (is symbol.Comma) (λ l. Is (is symbol.Close) (λ _. next (test.OneOf x l (is_some o) (unwrap_or o w).at))))) _
-        (sign symbol.Open ∷ between (sign symbol.Comma) (map shapes_literal list) ++ sign symbol.Close ∷ [])
+    (sign symbol.Open ∷ between (sign symbol.Comma) (map shapes_literal list) ++ sign symbol.Close ∷ [])
     (λ w _. behind symbol.Open (sign symbol.Open) stands_open (λ _ next. IsList never 256 IsLiteral (is symbol.Comma) (λ l. Is (is symbol.Close) (λ _. next (test.OneOf x l (is_some o) (unwrap_or o w).at)))) _
-        (between (sign symbol.Comma) (map shapes_literal list) ++ sign symbol.Close ∷ [])
+    (between (sign symbol.Comma) (map shapes_literal list) ++ sign symbol.Close ∷ [])
     (λ _ _. bind (IsList never 256 IsLiteral (is symbol.Comma)) (λ l next. Is (is symbol.Close) (λ _. next (test.OneOf x l (is_some o) (unwrap_or o w).at))) (λ r. r ≡ list) _
-        (between (sign symbol.Comma) (map shapes_literal list)) (sign symbol.Close ∷ []) (literals_read list literals)
+    (between (sign symbol.Comma) (map shapes_literal list)) (sign symbol.Close ∷ []) (literals_read list literals)
     (λ l same. behind symbol.Close (sign symbol.Close) stands_close (λ _ next. next (test.OneOf x l (is_some o) (unwrap_or o w).at)) _ []
     (λ _ _. pure _ (test.OneOf x l (is_some o) (unwrap_or o w).at)
-        (fold_one_of unplaced_layer x l (is_some o) (unwrap_or o w).at ∙ ap (λ a. test.OneOf a l (is_some o) 0) f ∙ ap (λ r. test.OneOf (unplaced_atom of) r (is_some o) 0) same
-        ∙ ap (λ b. test.OneOf (unplaced_atom of) list b 0) n ∙ sym (fold_one_of unplaced_layer of list negated at))))))))
+    (fold_one_of unplaced_layer x l (is_some o) (unwrap_or o w).at ∙ ap (λ a. test.OneOf a l (is_some o) 0) f ∙ ap (λ r. test.OneOf (unplaced_atom of) r (is_some o) 0) same
+    ∙ ap (λ b. test.OneOf (unplaced_atom of) list b 0) n ∙ sym (fold_one_of unplaced_layer of list negated at))))))))
 
 between_read : (grouped : Bool) (of low high : Atom) (negated : Bool) (at : ℕ) → ValidAtom grouped of → ValidAtom grouped low → ValidAtom grouped high
     → Reading (IsTest grouped never) (SameTest (test.Between of low high negated at)) (shapes_atom of ++ (shapes_negation negated ++ (word symbol.Between ∷ shapes_atom low ++ word symbol.And ∷ shapes_atom high)))
@@ -127,13 +127,13 @@ between_read grouped of low high negated at valid lows highs =
     negated_read grouped of negated (test.Between of low high negated at) _ valid
     (λ x o f n. right (IsIn never x o) (IsBetween grouped x o) _ (word symbol.Between ∷ shapes_atom low ++ word symbol.And ∷ shapes_atom high)
     (behind symbol.Between (word symbol.Between) stands_between (λ w next. IsOperand grouped (λ y. Is (is symbol.And) (λ _. IsOperand grouped (λ z. next (test.Between x y z (is_some o) (unwrap_or o w).at))))) _
-        (shapes_atom low ++ word symbol.And ∷ shapes_atom high)
+    (shapes_atom low ++ word symbol.And ∷ shapes_atom high)
     (λ w _. bind (IsOperand grouped) (λ y next. Is (is symbol.And) (λ _. IsOperand grouped (λ z. next (test.Between x y z (is_some o) (unwrap_or o w).at)))) (SameAtom low) _ (shapes_atom low) (word symbol.And ∷ shapes_atom high) (operand_read grouped low lows)
     (λ y g. behind symbol.And (word symbol.And) stands_and (λ _ next. IsOperand grouped (λ z. next (test.Between x y z (is_some o) (unwrap_or o w).at))) _ (shapes_atom high)
     (λ _ _. mapped (IsOperand grouped) (λ z. test.Between x y z (is_some o) (unwrap_or o w).at) (SameAtom high) _ (shapes_atom high) (operand_read grouped high highs)
     (λ z h. fold_between unplaced_layer x y z (is_some o) (unwrap_or o w).at ∙ ap (λ a. test.Between a (unplaced_atom y) (unplaced_atom z) (is_some o) 0) f
-        ∙ ap (λ a. test.Between (unplaced_atom of) a (unplaced_atom z) (is_some o) 0) g ∙ ap (λ a. test.Between (unplaced_atom of) (unplaced_atom low) a (is_some o) 0) h
-        ∙ ap (λ b. test.Between (unplaced_atom of) (unplaced_atom low) (unplaced_atom high) b 0) n ∙ sym (fold_between unplaced_layer of low high negated at)))))))
+    ∙ ap (λ a. test.Between (unplaced_atom of) a (unplaced_atom z) (is_some o) 0) g ∙ ap (λ a. test.Between (unplaced_atom of) (unplaced_atom low) a (is_some o) 0) h
+    ∙ ap (λ b. test.Between (unplaced_atom of) (unplaced_atom low) (unplaced_atom high) b 0) n ∙ sym (fold_between unplaced_layer of low high negated at)))))))
 
 pub leaf_read : (grouped : Bool) (t : Test) → ValidLeaf grouped t → Reading (IsTest grouped never) (SameTest t) (phrase_of t).shapes
 leaf_read grouped _ (compared how l r at lv rv) = shaped _ _ _ _ (ap (λ p. p.shapes) (sym (fold_compare shapes_layer how l r at))) (compare_read grouped how l r at lv rv)

@@ -1,11 +1,11 @@
 -- Names, columns and expressions are read back.
-use Rattle.std.proofs.Common.{◌≡◌, ◌⊎◌, ℕ, Bool, true, false, List, [], ◌∷◌, ◌++◌, Option, Some, None, codes, is_some, unwrap_or, if◌then◌else◌, refl, sym, ◌∙◌, ap}
+use Rattle.std.proofs.Common.{◌≡◌, ◌⊎◌, ℕ, Bool, true, false, List, [], ◌∷◌, ◌++◌, Option, Some, None, is_some, unwrap_or, if◌then◌else◌, refl, ◌∙◌, ap}
 use Rattle.pm_lexer.specs.declared.token.Token.{Token}
 use Rattle.pm_lexer.specs.declared.token.TokenKind.TheVariants as kind
 use Rattle.pm_lexer.specs.declared.symbol.Symbol.TheVariants as symbol
-use Rattle.pm_lexer.specs.Symbol.{is, same_symbol, symbol_at}
-use Rattle.pm_lexer.specs.Pieces.{content_of, content_at}
-use Rattle.pm_lexer.specs.Language.{Lang, Is}
+use Rattle.pm_lexer.specs.Symbol.{is, same_symbol}
+use Rattle.pm_lexer.specs.Pieces.{content_at}
+use Rattle.pm_lexer.specs.Language.{Is}
 use Rattle.pm_syntax.specs.declared.tree.PlacedName.{PlacedName}
 use Rattle.pm_syntax.specs.declared.tree.ColumnName.{ColumnName}
 use Rattle.pm_syntax.specs.declared.tree.Func.{Func}
@@ -48,14 +48,14 @@ column_with None name =
     bind IsName (λ first next ts. next (record { alias = None; name = first }) ts ⊎ Is (is symbol.Point) (λ _. IsName (λ n. next (record { alias = Some first; name = n }))) ts)
     (λ y. unplaced_name y ≡ unplaced_name name) _ (shape_name name.text ∷ []) [] (name_read name)
     (λ first same. left (λ next. next (record { alias = None; name = first })) (λ next. Is (is symbol.Point) (λ _. IsName (λ n. next (record { alias = Some first; name = n })))) _ []
-        (pure _ (record { alias = None; name = first }) (ap (λ x. unplaced_column (record { alias = None; name = x })) same)))
+    (pure _ (record { alias = None; name = first }) (ap (λ x. unplaced_column (record { alias = None; name = x })) same)))
 column_with (Some alias) name =
     bind IsName (λ first next ts. next (record { alias = None; name = first }) ts ⊎ Is (is symbol.Point) (λ _. IsName (λ n. next (record { alias = Some first; name = n }))) ts)
     (λ y. unplaced_name y ≡ unplaced_name alias) _ (shape_name alias.text ∷ []) (sign symbol.Point ∷ shape_name name.text ∷ []) (name_read alias)
     (λ first same. right (λ next. next (record { alias = None; name = first })) (λ next. Is (is symbol.Point) (λ _. IsName (λ n. next (record { alias = Some first; name = n })))) _ (sign symbol.Point ∷ shape_name name.text ∷ [])
-        (behind symbol.Point (sign symbol.Point) stands_point (λ _ next. IsName (λ n. next (record { alias = Some first; name = n }))) _ (shape_name name.text ∷ [])
-        (λ _ _. mapped IsName (λ n. record { alias = Some first; name = n }) (λ y. unplaced_name y ≡ unplaced_name name) _ (shape_name name.text ∷ []) (name_read name)
-            (λ n is. ap (λ x. record { alias = Some x; name = unplaced_name n }) same ∙ ap (λ x. record { alias = Some (unplaced_name alias); name = x }) is))))
+    (behind symbol.Point (sign symbol.Point) stands_point (λ _ next. IsName (λ n. next (record { alias = Some first; name = n }))) _ (shape_name name.text ∷ [])
+    (λ _ _. mapped IsName (λ n. record { alias = Some first; name = n }) (λ y. unplaced_name y ≡ unplaced_name name) _ (shape_name name.text ∷ []) (name_read name)
+    (λ n is. ap (λ x. record { alias = Some x; name = unplaced_name n }) same ∙ ap (λ x. record { alias = Some (unplaced_name alias); name = x }) is))))
 
 pub column_read : (column : ColumnName) → Reading IsColumn (λ y. unplaced_column y ≡ unplaced_column column) (shapes_column column)
 unfolding shapes_column
@@ -104,7 +104,7 @@ call_read f column =
     (λ _ _. bind IsColumn (λ c next. Is (is symbol.Close) (λ _. next (expr.Call (unwrap_or (func_of t) func.Count) c t.at))) (λ y. unplaced_column y ≡ unplaced_column column) _ (shapes_column column) (sign symbol.Close ∷ []) (column_read column)
     (λ c same. behind symbol.Close (sign symbol.Close) stands_close (λ _ next. next (expr.Call (unwrap_or (func_of t) func.Count) c t.at)) _ []
     (λ _ _. pure _ (expr.Call (unwrap_or (func_of t) func.Count) c t.at)
-        (ap (λ x. expr.Call (unwrap_or x func.Count) (unplaced_column c) 0) (func_is f t e) ∙ ap (λ x. expr.Call f x 0) same)))))
+    (ap (λ x. expr.Call (unwrap_or x func.Count) (unplaced_column c) 0) (func_is f t e) ∙ ap (λ x. expr.Call f x 0) same)))))
 
 pub expr_read : (e : Expr) → Reading IsExpr (λ y. unplaced_expr y ≡ unplaced_expr e) (shapes_expr e)
 unfolding shapes_expr

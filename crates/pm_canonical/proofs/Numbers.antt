@@ -1,14 +1,14 @@
 -- The bytes of a number.
-use Rattle.std.proofs.Common.{◌≡◌, ◌<◌, ◌≤◌, ◌+◌, ◌-◌, ℕ, suc, zero, Bool, true, false, not, List, [], ◌∷◌, ◌++◌, length, take, drop, filter, cond, if◌then◌else◌, ◌==◌, refl, sym, ◌∙◌, ap, arith, length-append}
+use Rattle.std.proofs.Common.{◌≡◌, ◌<◌, ◌≤◌, ◌+◌, ℕ, suc, zero, Bool, true, false, not, List, [], ◌∷◌, ◌++◌, length, take, drop, filter, if◌then◌else◌, ◌==◌, refl, sym, ◌∙◌, ap, arith, length-append}
 use Rattle.std.specs.List.{prefix_len, list_all}
 use Rattle.std.specs.Char.{is_ascii_digit}
-use Rattle.std.proofs.lemmas.Bool.{eqb-true, eqb-false, ne_eqb, not-true, not_from_false}
-use Rattle.std.proofs.lemmas.List.{append_assoc, append-nil, take-append-drop}
+use Rattle.std.proofs.lemmas.Bool.{eqb-true, ne_eqb}
+use Rattle.std.proofs.lemmas.List.{append-nil, take-append-drop}
 use Rattle.std.proofs.lemmas.List.Elements.{filter-append}
 use Rattle.std.proofs.lemmas.List.Folds.{length-prefix_len}
 use Rattle.std.proofs.Math.Seq.{take-append_seam, take-append-add, drop-append_seam}
 use Rattle.pm_lexer.specs.Pieces.{whole_len, decimals, decimals_len, number_len}
-use Rattle.pm_canonical.proofs.Runs.{Follows, run_whole, run_all, run_ends, filter_all, all_head, follows_append}
+use Rattle.pm_canonical.proofs.Runs.{Follows, run_whole, run_all, filter_all}
 use Rattle.pm_canonical.proofs.Formed.{IsNumber}
 
 -- decimals behind their point, where there are any

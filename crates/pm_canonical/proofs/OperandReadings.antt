@@ -1,10 +1,10 @@
 -- Literals and operands are read back.
-use Rattle.std.proofs.Common.{◌≡◌, ◌⊎◌, ℕ, suc, zero, ◌+◌, ℤ, pos, negsuc, neg_ℤ, Bool, true, false, List, [], ◌∷◌, ◌++◌, decimal, unsigned_abs, int_lt, if◌then◌else◌, refl, sym, ◌∙◌, ap, arith}
+use Rattle.std.proofs.Common.{◌≡◌, ◌⊎◌, ℕ, ◌+◌, ℤ, pos, negsuc, neg_ℤ, Bool, true, false, List, [], ◌∷◌, decimal, unsigned_abs, int_lt, refl, ◌∙◌, ap, arith}
 use Rattle.std.proofs.lemmas.Bool.Decides.{nat_tests}
 use Rattle.pm_lexer.specs.declared.token.Token.{Token}
 use Rattle.pm_lexer.specs.declared.token.TokenKind.TheVariants as kind
 use Rattle.pm_lexer.specs.declared.symbol.Symbol.TheVariants as symbol
-use Rattle.pm_lexer.specs.Symbol.{is, same_symbol, symbol_at}
+use Rattle.pm_lexer.specs.Symbol.{is, same_symbol}
 use Rattle.pm_lexer.specs.Pieces.{content_of, content_at, decimals_len}
 use Rattle.pm_lexer.specs.Language.{Lang, Is}
 use Rattle.pm_syntax.specs.declared.tree.Expr.{Expr}
@@ -14,15 +14,15 @@ use Rattle.pm_syntax.specs.declared.tree.Literal.TheVariants as literal
 use Rattle.pm_syntax.specs.declared.tree.Atom.{Atom}
 use Rattle.pm_syntax.specs.declared.tree.Atom.TheVariants as atom
 use Rattle.pm_syntax.specs.Terminals.{magnitude, magnitude_of}
-use Rattle.pm_syntax.specs.Grammar.{IsColumn, IsExpr, IsLiteral, IsTerm, IsOperand}
-use Rattle.pm_canonical.specs.Canon.{quoted, pointed, padded}
+use Rattle.pm_syntax.specs.Grammar.{IsLiteral, IsTerm, IsOperand}
+use Rattle.pm_canonical.specs.Canon.{quoted, padded}
 use Rattle.pm_canonical.specs.Shapes.{Shape, shape_of, sign, word, shape_digits, shapes_number, shapes_expr, shapes_literal, shapes_atom}
 use Rattle.pm_canonical.specs.Same.{unplaced_expr, unplaced_atom}
 use Rattle.pm_canonical.proofs.Valid.{ValidNumber, ValidLiteral, ValidTerm, ValidAtom}
-use Rattle.pm_canonical.proofs.Combinators.{Reading, pure, shaped, mapped, left, right, bind, behind, token, symbol_token, Stands}
+use Rattle.pm_canonical.proofs.Combinators.{Reading, pure, shaped, mapped, left, right, bind, behind, symbol_token, Stands}
 use Rattle.pm_canonical.proofs.Standing.{stands_null, stands_minus}
 use Rattle.pm_canonical.proofs.Quoting.{content_text}
-use Rattle.pm_canonical.proofs.Values.{Digits, digits_are, Pointed, pointed_is}
+use Rattle.pm_canonical.proofs.Values.{digits_are, Pointed, pointed_is}
 use Rattle.pm_canonical.proofs.NameReadings.{column_expr, expr_read}
 
 -- a number without its sign

@@ -1,8 +1,7 @@
 -- The parts of a statement are read back.
-use Rattle.std.proofs.Common.{◌≡◌, ◌⊎◌, ◌<◌, ◌≤◌, ℕ, suc, zero, Bool, true, false, List, [], ◌∷◌, ◌++◌, length, map, Option, Some, None, is_some, if◌then◌else◌, refl, sym, ◌∙◌, ap, arith}
+use Rattle.std.proofs.Common.{◌≡◌, ◌⊎◌, Bool, true, false, List, [], ◌∷◌, ◌++◌, length, map, Option, Some, None, if◌then◌else◌, refl, sym, ◌∙◌, ap, arith}
 use Rattle.std.specs.List.{flat_map}
 use Rattle.std.proofs.lemmas.List.{append-nil}
-use Rattle.pm_lexer.specs.declared.token.Token.{Token}
 use Rattle.pm_lexer.specs.declared.symbol.Symbol.{Symbol}
 use Rattle.pm_lexer.specs.declared.symbol.Symbol.TheVariants as symbol
 use Rattle.pm_lexer.specs.Symbol.{is}
@@ -17,10 +16,10 @@ use Rattle.pm_syntax.specs.declared.tree.Source.{Source}
 use Rattle.pm_syntax.specs.declared.tree.Test.{Test}
 use Rattle.pm_syntax.specs.declared.tree.OrderItem.{OrderItem}
 use Rattle.pm_syntax.specs.Grammar.{IsName, IsColumn, IsExpr, IsGiven, IsItem, IsItems, IsCondition, IsJoin, IsOn, IsSource, IsSources, IsFilter, IsGroups, IsHaving, IsDirection, IsKey, IsOrders}
-use Rattle.pm_canonical.specs.Shapes.{Shape, shape_of, sign, word, between, shape_name, shapes_column, shapes_expr, shapes_given, shapes_item, shapes_items, shapes_source, shapes_further, shapes_sources, shapes_test, shapes_condition, shapes_list, shapes_key}
+use Rattle.pm_canonical.specs.Shapes.{Shape, sign, word, between, shape_name, shapes_column, shapes_expr, shapes_given, shapes_item, shapes_items, shapes_source, shapes_further, shapes_sources, shapes_test, shapes_condition, shapes_list, shapes_key}
 use Rattle.pm_canonical.specs.Same.{unplaced_option, unplaced_name, unplaced_column, unplaced_expr, unplaced_item, unplaced_items, unplaced_test, unplaced_source, unplaced_key}
-use Rattle.pm_canonical.proofs.Valid.{Every, Where, ValidList, ValidPart, ValidColumn, ValidExpr, ValidItem, ValidItems, ValidSource, Unjoined, Fits, whole}
-use Rattle.pm_canonical.proofs.Combinators.{Reading, Stands, Entry, Each, each, pure, shaped, better, mapped, left, right, bind, behind, given, more_read, list_of}
+use Rattle.pm_canonical.proofs.Valid.{Where, ValidList, ValidPart, ValidColumn, ValidExpr, ValidItem, ValidItems, ValidSource, Unjoined, Fits, whole}
+use Rattle.pm_canonical.proofs.Combinators.{Reading, Stands, Entry, each, pure, shaped, better, mapped, left, right, bind, behind, given, more_read, list_of}
 use Rattle.pm_canonical.proofs.Standing.{stands_star, stands_comma, stands_join, stands_on, stands_where, stands_group, stands_by, stands_having, stands_order, stands_desc}
 use Rattle.pm_canonical.proofs.NameReadings.{name_read, column_read, expr_read, given_read}
 use Rattle.pm_canonical.proofs.LeafReadings.{SameTest}
@@ -140,11 +139,11 @@ sources_read [] valid alone = let some = valid.some in absurd (omega arith)
 sources_read (first ∷ others) valid alone =
     bind (IsSource 32 never false) (λ x. IsFurther never 64 IsJoin (IsSource 32 never) (x ∷ [])) (SameSource first) (SameSources (first ∷ others)) (shapes_source first) (flat_map (λ s. shapes_further s.on s) others) (first_read first alone)
     (λ x same front e.
-      let most = valid.within in
-      let r = more_read 64 IsJoin (IsSource 32 never) unplaced_source (λ s. shapes_further s.on s) (x ∷ []) others
-          (each ValidSource (λ s. Entry IsJoin (IsSource 32 never) (SameSource s) (shapes_further s.on s)) (λ s v. further_with s.table s.alias s.on v.on) others valid.each.1)
-          (omega arith) (length others) refl (unplaced_source first ∷ []) (ap (λ y. y ∷ []) same) front e in
-      record { value = r.value; good = r.good; reads = λ next w n. (length others, r.reads next w n) })
+    let most = valid.within in
+    let r = more_read 64 IsJoin (IsSource 32 never) unplaced_source (λ s. shapes_further s.on s) (x ∷ []) others
+    (each ValidSource (λ s. Entry IsJoin (IsSource 32 never) (SameSource s) (shapes_further s.on s)) (λ s v. further_with s.table s.alias s.on v.on) others valid.each.1)
+    (omega arith) (length others) refl (unplaced_source first ∷ []) (ap (λ y. y ∷ []) same) front e in
+    record { value = r.value; good = r.good; reads = λ next w n. (length others, r.reads next w n) })
 
 -- [ WHERE cond ] and [ HAVING cond ]
 abbrev Conditioned : Symbol → Bool → Lang (Option Test)

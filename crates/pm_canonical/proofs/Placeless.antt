@@ -1,5 +1,5 @@
 -- Canonical text says nothing of places.
-use Rattle.std.proofs.Common.{◌≡◌, ℕ, Bool, true, false, List, [], ◌∷◌, ◌++◌, map, Option, Some, None, if◌then◌else◌, codes, refl, sym, ◌∙◌, ap, subst}
+use Rattle.std.proofs.Common.{◌≡◌, ℕ, List, [], ◌∷◌, ◌++◌, map, Option, Some, None, codes, refl, sym, ◌∙◌, ap, subst}
 use Rattle.std.specs.List.{flat_map}
 use Rattle.pm_syntax.specs.declared.tree.PlacedName.{PlacedName}
 use Rattle.pm_syntax.specs.declared.tree.ColumnName.{ColumnName}
@@ -18,7 +18,7 @@ use Rattle.pm_syntax.specs.declared.tree.Test.TheOpen as layer
 use Rattle.pm_syntax.specs.declared.tree.Test.TheFolds.{ind-Test}
 use Rattle.pm_syntax.specs.declared.tree.OrderItem.{OrderItem}
 use Rattle.pm_syntax.specs.declared.tree.Select.{Select}
-use Rattle.pm_canonical.specs.Canon.{joined, canon_alias, canon_column, canon_expr, canon_literal, canon_atom, canon_layer, text_of, canon_test, canon_given, canon_item, canon_items, canon_source, canon_further, canon_sources, canon_key, canon_condition, canon_list, canon}
+use Rattle.pm_canonical.specs.Canon.{joined, canon_alias, canon_column, canon_expr, canon_atom, canon_layer, text_of, canon_test, canon_given, canon_item, canon_items, canon_source, canon_further, canon_sources, canon_key, canon_condition, canon_list, canon}
 use Rattle.pm_canonical.specs.Same.{unplaced_option, unplaced_name, unplaced_column, unplaced_expr, unplaced_item, unplaced_items, unplaced_atom, unplaced_layer, unplaced_test, unplaced_source, unplaced_key, unplaced, SameTree}
 use Rattle.pm_canonical.proofs.Folds.{fold_any, fold_all, fold_not, fold_compare, fold_null, fold_one_of, fold_between}
 
@@ -128,8 +128,14 @@ placeless_list words f u e (x ∷ xs) = ap (λ t. words ++ joined (codes ", ") t
 placeless : (s : Select) → canon (unplaced s) ≡ canon s
 unfolding canon unplaced
 placeless s =
-    rw (placeless_items s.items, placeless_sources s.sources, placeless_condition (codes " WHERE ") s.filter, placeless_list (codes " GROUP BY ") canon_column unplaced_column placeless_column s.groups,
-    placeless_condition (codes " HAVING ") s.having, placeless_list (codes " ORDER BY ") canon_key unplaced_key placeless_key s.orders) refl
+    rw (
+      placeless_items s.items,
+      placeless_sources s.sources,
+      placeless_condition (codes " WHERE ") s.filter,
+      placeless_list (codes " GROUP BY ") canon_column unplaced_column placeless_column s.groups,
+      placeless_condition (codes " HAVING ") s.having,
+      placeless_list (codes " ORDER BY ") canon_key unplaced_key placeless_key s.orders,
+    ) refl
 
 pub same_text : (a b : Select) → SameTree a b → canon a ≡ canon b
 same_text a b e = sym (placeless a) ∙ ap canon e ∙ placeless b

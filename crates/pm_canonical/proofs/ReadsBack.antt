@@ -1,5 +1,5 @@
 -- Tokens of the shapes of a statement are read as that statement.
-use Rattle.std.proofs.Common.{◌≡◌, ◌⊎◌, ℕ, Bool, true, false, List, [], ◌∷◌, ◌++◌, map, Option, Some, None, is_some, if◌then◌else◌, refl, sym, ◌∙◌, ap}
+use Rattle.std.proofs.Common.{◌≡◌, List, [], ◌∷◌, ◌++◌, map, Option, Some, None, is_some, if◌then◌else◌, refl, sym, ◌∙◌}
 use Rattle.std.proofs.lemmas.List.{append_assoc, append-nil}
 use Rattle.pm_lexer.specs.declared.token.Token.{Token}
 use Rattle.pm_lexer.specs.declared.symbol.Symbol.TheVariants as symbol
@@ -13,10 +13,10 @@ use Rattle.pm_syntax.specs.declared.tree.OrderItem.{OrderItem}
 use Rattle.pm_syntax.specs.declared.tree.Select.{Select}
 use Rattle.pm_syntax.specs.Grammar.{IsOptional, IsItems, IsSources, IsFilter, IsGroups, IsHaving, IsOrders, IsSelect}
 use Rattle.pm_syntax.specs.Statement.{Whole, Reads}
-use Rattle.pm_canonical.specs.Shapes.{Shape, shape_of, end_shape, sign, word, shapes_column, shapes_items, shapes_sources, shapes_condition, shapes_list, shapes_key, shapes_select}
-use Rattle.pm_canonical.specs.Same.{unplaced_option, unplaced_column, unplaced_items, unplaced_test, unplaced_source, unplaced_key, unplaced, SameTree}
+use Rattle.pm_canonical.specs.Shapes.{Shape, shape_of, end_shape, word, shapes_column, shapes_items, shapes_sources, shapes_condition, shapes_list, shapes_key, shapes_select}
+use Rattle.pm_canonical.specs.Same.{unplaced, SameTree}
 use Rattle.pm_canonical.proofs.Valid.{Valid}
-use Rattle.pm_canonical.proofs.Combinators.{Reading, Stands, stands_is, pure, shaped, left, bind, behind}
+use Rattle.pm_canonical.proofs.Combinators.{Reading, Stands, stands_is, pure, left, bind, behind}
 use Rattle.pm_canonical.proofs.Standing.{stands_select, stands_distinct, stands_from}
 use Rattle.pm_canonical.proofs.LeafReadings.{optional_read}
 use Rattle.pm_canonical.proofs.PartsReadings.{SameItems, SameSources, SameCondition, SameColumns, SameKeys, items_read, sources_read, filter_read, groups_read, having_read, orders_read}
@@ -92,7 +92,7 @@ whole_read : (s : Select) → Valid s → Reading (IsSelect 32 never) (Same s) (
 whole_read s valid =
     behind symbol.Select (word symbol.Select) stands_select (λ _ next. IsOptional (is symbol.Distinct) (λ d. Itemed (built d) next)) (Same s) _
     (λ _ _. bind (IsOptional (is symbol.Distinct)) (λ d. Itemed (built d)) (λ d. is_some d ≡ s.distinct) (Same s) (if s.distinct then word symbol.Distinct ∷ [] else []) _
-        (optional_read (is symbol.Distinct) (word symbol.Distinct) (stands_is symbol.Distinct (word symbol.Distinct) stands_distinct) s.distinct)
+    (optional_read (is symbol.Distinct) (word symbol.Distinct) (stands_is symbol.Distinct (word symbol.Distinct) stands_distinct) s.distinct)
     (λ d e1. bind (IsItems never) (λ x next. Is (is symbol.From) (λ _. Sourced (built d x) next)) (SameItems s.items) (Same s) (shapes_items s.items) (word symbol.From ∷ tail_shapes s) (items_read s.items valid.items)
     (λ x e2. behind symbol.From (word symbol.From) stands_from (λ _ next. Sourced (built d x) next) (Same s) (tail_shapes s) (λ _ _. tail_read s valid d x e1 e2))))
 

@@ -1,5 +1,5 @@
 -- Runs of bytes at the head of a text.
-use Rattle.std.proofs.Common.{◌≡◌, ◌<◌, ◌≤◌, ◌+◌, ℕ, suc, zero, Bool, true, false, not, List, [], ◌∷◌, ◌++◌, length, take, drop, cond, ◌&&◌, refl, sym, ◌∙◌, ap, arith}
+use Rattle.std.proofs.Common.{◌≡◌, ◌+◌, ℕ, suc, Bool, true, false, not, List, [], ◌∷◌, ◌++◌, length, take, drop, cond, refl, ap, arith}
 use Rattle.std.specs.List.{prefix_len, list_all, filter}
 use Rattle.std.proofs.lemmas.Bool.{and_parts, and_from, not-true}
 

@@ -1,5 +1,5 @@
 -- Languages that give only valid values, of tokens that lexing gave.
-use Rattle.std.proofs.Common.{◌≡◌, ◌⊎◌, ◌≤◌, ◌<◌, ◌+◌, ℕ, suc, zero, Bool, true, false, List, [], ◌∷◌, ◌++◌, length, refl, sym, ◌∙◌, ap, inl, inr, arith, length-append}
+use Rattle.std.proofs.Common.{◌≡◌, ◌⊎◌, ◌≤◌, ◌<◌, ℕ, suc, zero, Bool, true, List, [], ◌∷◌, ◌++◌, length, sym, ◌∙◌, ap, inl, inr, arith, length-append}
 use Rattle.std.proofs.lemmas.List.{append_assoc, append-nil}
 use Rattle.pm_lexer.specs.declared.token.Token.{Token}
 use Rattle.pm_lexer.specs.Language.{Lang, Is, never, IsMore, IsFurther, IsList}
@@ -79,5 +79,5 @@ pub sound_list : {A : Type 0} (limit : ℕ) (P : Lang A) (sep : Token → Bool) 
 sound_list limit P sep V one p =
     sound_bind P (λ a. IsFurther never limit (Is sep) (λ _. P) (a ∷ [])) V (ValidList limit V) p
     (λ a valid. sound_better (IsFurther never limit (Is sep) (λ _. P) (a ∷ [])) (Grown limit V (a ∷ [])) (ValidList limit V)
-        (λ xs g. record { some = omega (arith, ap length g.is, length-append (a ∷ []) g.more); within = g.within; each = g.each })
-        (sound_further limit (Is sep) (λ _. P) V (sound_better (Is sep) (λ t. IsFormed t × (sep t ≡ true)) (λ _. Unit {0}) (λ _ _. tt) (sound_token sep)) (λ _. p) (a ∷ []) (valid, tt) one))
+    (λ xs g. record { some = omega (arith, ap length g.is, length-append (a ∷ []) g.more); within = g.within; each = g.each })
+    (sound_further limit (Is sep) (λ _. P) V (sound_better (Is sep) (λ t. IsFormed t × (sep t ≡ true)) (λ _. Unit {0}) (λ _ _. tt) (sound_token sep)) (λ _. p) (a ∷ []) (valid, tt) one))

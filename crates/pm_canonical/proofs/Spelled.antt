@@ -1,5 +1,5 @@
 -- Each part of canonical text is lexed as the shapes that it has: names, expressions, literals, and lists of parts.
-use Rattle.std.proofs.Common.{◌≡◌, ◌<◌, ◌≤◌, ◌+◌, ◌-◌, ℕ, suc, zero, ℤ, pos, Bool, true, false, not, List, [], ◌∷◌, ◌++◌, length, take, drop, map, Option, Some, None, if◌then◌else◌, ◌&&◌, codes, decimal, unsigned_abs, int_lt, refl, sym, ◌∙◌, ap, arith, length-append}
+use Rattle.std.proofs.Common.{◌≡◌, ◌<◌, ◌≤◌, ◌+◌, ◌-◌, ℕ, ℤ, pos, Bool, true, false, not, List, [], ◌∷◌, ◌++◌, length, take, drop, map, Option, Some, None, if◌then◌else◌, ◌&&◌, codes, decimal, unsigned_abs, int_lt, refl, arith, length-append}
 use Rattle.std.specs.List.{list_all}
 use Rattle.std.specs.Option.{is_some}
 use Rattle.std.specs.Char.{is_ascii_digit}
@@ -21,10 +21,10 @@ use Rattle.pm_syntax.specs.declared.tree.Atom.{Atom}
 use Rattle.pm_syntax.specs.declared.tree.Atom.TheVariants as atom
 use Rattle.pm_syntax.specs.declared.tree.Comparison.{Comparison}
 use Rattle.pm_syntax.specs.declared.tree.Comparison.TheVariants as comparison
-use Rattle.pm_canonical.specs.Canon.{joined, quoted, doubled, is_plain, canon_name, canon_alias, canon_column, canon_func, canon_expr, pointed, padded, canon_number, canon_literal, canon_atom, canon_comparison}
-use Rattle.pm_canonical.specs.Shapes.{Shape, word, sign, between, shape_name, shapes_alias, shapes_column, shape_func, shapes_expr, shape_digits, shapes_number, shapes_literal, shapes_atom, shape_comparison}
+use Rattle.pm_canonical.specs.Canon.{joined, quoted, is_plain, canon_name, canon_alias, canon_column, canon_func, canon_expr, pointed, padded, canon_number, canon_literal, canon_atom, canon_comparison}
+use Rattle.pm_canonical.specs.Shapes.{Shape, sign, between, shape_name, shapes_alias, shapes_column, shape_func, shapes_expr, shape_digits, shapes_number, shapes_literal, shapes_atom, shape_comparison}
 use Rattle.pm_canonical.proofs.Valid.{Every, Where, ValidName, ValidPlaced, ValidColumn, ValidExpr, ValidNumber, ValidLiteral, ValidTerm, ValidAtom}
-use Rattle.pm_canonical.proofs.Runs.{Follows, follows_append, all_head}
+use Rattle.pm_canonical.proofs.Runs.{Follows, all_head}
 use Rattle.pm_canonical.proofs.Numbers.{point}
 use Rattle.pm_canonical.proofs.Values.{Digits, digits_are, pointed_parts, all_cut}
 use Rattle.pm_canonical.proofs.Spelling.{Spells, any, ends, stops, spells_none, spells_piece, spells_weaker, spells_both, spells_then, spells_at, spells_after}

@@ -1,12 +1,11 @@
 -- A statement's canonical text is lexed as its shapes.
-use Rattle.std.proofs.Common.{◌≡◌, ℕ, Bool, true, false, List, [], ◌∷◌, ◌++◌, map, Option, Some, None, Result, Ok, if◌then◌else◌, codes, refl, sym, ◌∙◌, ap}
+use Rattle.std.proofs.Common.{◌≡◌, ℕ, Bool, true, false, List, [], ◌∷◌, ◌++◌, map, Option, Some, None, Ok, if◌then◌else◌, codes, refl}
 use Rattle.std.specs.List.{flat_map}
 use Rattle.std.proofs.lemmas.List.{append_assoc, append-nil}
 use Rattle.pm_lexer.specs.declared.token.Token.{Token}
 use Rattle.pm_lexer.specs.declared.symbol.Symbol.TheVariants as symbol
 use Rattle.pm_lexer.specs.Tokens.{tokens_of}
 use Rattle.pm_syntax.specs.declared.tree.PlacedName.{PlacedName}
-use Rattle.pm_syntax.specs.declared.tree.ColumnName.{ColumnName}
 use Rattle.pm_syntax.specs.declared.tree.Item.{Item}
 use Rattle.pm_syntax.specs.declared.tree.Items.{Items}
 use Rattle.pm_syntax.specs.declared.tree.Items.TheVariants as items
@@ -14,13 +13,13 @@ use Rattle.pm_syntax.specs.declared.tree.Source.{Source}
 use Rattle.pm_syntax.specs.declared.tree.Test.{Test}
 use Rattle.pm_syntax.specs.declared.tree.OrderItem.{OrderItem}
 use Rattle.pm_syntax.specs.declared.tree.Select.{Select}
-use Rattle.pm_canonical.specs.Canon.{joined, canon_column, canon_name, canon_expr, canon_test, canon_given, canon_item, canon_items, canon_source, canon_further, canon_sources, canon_key, canon_condition, canon_list, canon}
-use Rattle.pm_canonical.specs.Shapes.{Shape, shape_of, end_shape, word, sign, between, shapes_column, shapes_expr, shapes_test, shapes_given, shapes_item, shapes_items, shapes_source, shapes_further, shapes_sources, shapes_key, shapes_condition, shapes_list, shapes_select}
-use Rattle.pm_canonical.proofs.Valid.{Every, Where, ValidList, ValidPart, ValidPlaced, ValidColumn, ValidExpr, ValidItem, ValidItems, ValidSource, Unjoined, Role, Fits, Valid}
+use Rattle.pm_canonical.specs.Canon.{joined, canon_column, canon_expr, canon_test, canon_given, canon_item, canon_items, canon_source, canon_further, canon_sources, canon_key, canon_condition, canon_list, canon}
+use Rattle.pm_canonical.specs.Shapes.{Shape, shape_of, end_shape, word, sign, between, shapes_column, shapes_expr, shapes_given, shapes_item, shapes_items, shapes_source, shapes_further, shapes_sources, shapes_key, shapes_condition, shapes_list, shapes_select}
+use Rattle.pm_canonical.proofs.Valid.{Every, Where, ValidPlaced, ValidColumn, ValidExpr, ValidItem, ValidItems, ValidSource, Role, Fits, Valid}
 use Rattle.pm_canonical.proofs.Runs.{Follows, follows_append}
-use Rattle.pm_canonical.proofs.Spelling.{Lexes, lexes_end, Spells, any, ends, spells_none, spells_both, spells_then, spells_after}
+use Rattle.pm_canonical.proofs.Spelling.{lexes_end, Spells, any, ends, spells_none, spells_both, spells_then, spells_after}
 use Rattle.pm_canonical.proofs.Wording.{spells_select, spells_distinct, spells_from, spells_join, spells_on, spells_where, spells_group, spells_having, spells_order, spells_desc, spells_as, spells_star, spells_comma}
-use Rattle.pm_canonical.proofs.Spelled.{spells_any, ends_early, spells_name, spells_column, spells_expr, EachSpells, spells_joined, every_spells}
+use Rattle.pm_canonical.proofs.Spelled.{spells_any, ends_early, spells_name, spells_column, spells_expr, spells_joined, every_spells}
 use Rattle.pm_canonical.proofs.SpelledTests.{four, spells_fits}
 
 -- names behind AS

@@ -1,19 +1,16 @@
 -- A condition's canonical text is lexed as its shapes.
-use Rattle.std.proofs.Common.{◌≡◌, ◌≤◌, ℕ, suc, zero, Bool, true, false, List, [], ◌∷◌, ◌++◌, length, map, if◌then◌else◌, codes, refl, sym, ◌∙◌, ap, arith}
+use Rattle.std.proofs.Common.{◌≡◌, ℕ, Bool, true, false, List, [], ◌∷◌, ◌++◌, map, codes, refl, ap, arith}
 use Rattle.std.proofs.lemmas.List.{append_assoc}
 use Rattle.pm_lexer.specs.declared.symbol.Symbol.TheVariants as symbol
 use Rattle.pm_lexer.specs.Symbol.{reserved_word}
-use Rattle.pm_syntax.specs.declared.tree.Literal.{Literal}
-use Rattle.pm_syntax.specs.declared.tree.Atom.{Atom}
-use Rattle.pm_syntax.specs.declared.tree.Comparison.{Comparison}
-use Rattle.pm_syntax.specs.declared.tree.Test.{Test, fold-Test}
+use Rattle.pm_syntax.specs.declared.tree.Test.{Test}
 use Rattle.pm_syntax.specs.declared.tree.Test.TheVariants as test
 use Rattle.pm_canonical.specs.Canon.{Text, plain, joined, is_wrapped, member_of, separator, negation, canon_comparison, canon_literal, canon_atom, canon_layer, text_of}
 use Rattle.pm_canonical.specs.Shapes.{Shape, Phrase, single, word, sign, between, in_parens, member_shapes, list_word, shapes_negation, shape_comparison, shapes_literal, shapes_atom, shapes_layer, phrase_of}
-use Rattle.pm_canonical.proofs.Valid.{Every, ValidList, ValidLiteral, ValidAtom, ValidLeaf, Role, Fits, FitsEach}
+use Rattle.pm_canonical.proofs.Valid.{Every, ValidLiteral, ValidLeaf, Role, Fits, FitsEach}
 use Rattle.pm_canonical.proofs.Folds.{fold_any, fold_all, fold_not, fold_compare, fold_null, fold_one_of, fold_between}
-use Rattle.pm_canonical.proofs.Runs.{Follows, follows_append}
-use Rattle.pm_canonical.proofs.Spelling.{Spells, any, ends, spells_none, spells_gap, spells_both, spells_at, spells_after, anything}
+use Rattle.pm_canonical.proofs.Runs.{Follows}
+use Rattle.pm_canonical.proofs.Spelling.{Spells, any, ends, spells_none, spells_gap, spells_both, spells_at, spells_after}
 use Rattle.pm_canonical.proofs.Wording.{reserved_spells, word_before, spells_open, spells_close, spells_and, spells_or, spells_not, spells_is, spells_null, spells_between, spells_comma}
 use Rattle.pm_canonical.proofs.Spelled.{spells_any, spells_literal, spells_atom, spells_comparison, comparison_first, EachSpells, spells_joined, every_spells}
 

@@ -1,12 +1,12 @@
 -- What pieces of canonical text are lexed as.
-use Rattle.std.proofs.Common.{◌≡◌, ◌<◌, ◌≤◌, ◌+◌, ℕ, Bool, true, List, [], ◌∷◌, ◌++◌, length, map, Result, Ok, Err, ◌==◌, ◌||◌, refl, sym, ◌∙◌, ap, arith, length-append}
+use Rattle.std.proofs.Common.{◌≡◌, ◌<◌, ◌+◌, ℕ, Bool, true, List, [], ◌∷◌, ◌++◌, length, map, Ok, ◌==◌, ◌||◌, refl, ◌∙◌, ap, arith, length-append}
 use Rattle.std.proofs.lemmas.List.{append_assoc}
 use Rattle.std.proofs.Math.Seq.{take-append_seam, drop-append_seam}
 use Rattle.pm_lexer.specs.declared.token.Token.{Token}
 use Rattle.pm_lexer.specs.declared.token.TokenKind.{TokenKind}
 use Rattle.pm_lexer.specs.declared.head.Head.TheVariants as head
 use Rattle.pm_lexer.specs.Head.{head_of}
-use Rattle.pm_lexer.specs.Tokens.{before, end_token, tokens_behind}
+use Rattle.pm_lexer.specs.Tokens.{end_token, tokens_behind}
 use Rattle.pm_lexer.proofs.Walk.{walk_gap, walk_piece, walk_end}
 use Rattle.pm_canonical.specs.Shapes.{Shape, shape_of, end_shape}
 use Rattle.pm_canonical.proofs.Runs.{Follows, follows_append, follows_weaker}

@@ -1,12 +1,12 @@
 -- Conditions are read back.
-use Rattle.std.proofs.Common.{◌≡◌, ◌⊎◌, ◌<◌, ◌≤◌, ℕ, suc, zero, Bool, true, false, List, [], ◌∷◌, ◌++◌, length, map, if◌then◌else◌, refl, sym, ◌∙◌, ap, arith}
+use Rattle.std.proofs.Common.{◌≡◌, ◌⊎◌, ◌≤◌, ℕ, suc, zero, Bool, true, false, List, [], ◌∷◌, ◌++◌, length, map, refl, sym, ◌∙◌, ap, arith}
 use Rattle.std.proofs.lemmas.List.{length-map}
 use Rattle.pm_lexer.specs.declared.symbol.Symbol.TheVariants as symbol
 use Rattle.pm_lexer.specs.Symbol.{is}
 use Rattle.pm_lexer.specs.Language.{Lang, Is, IsMore, IsFurther, IsList, never}
 use Rattle.pm_syntax.specs.declared.tree.Test.{Test}
 use Rattle.pm_syntax.specs.declared.tree.Test.TheVariants as test
-use Rattle.pm_syntax.specs.Grammar.{IsTest, IsPart, IsPartAnd, IsCond, IsCondition, all_of, any_of}
+use Rattle.pm_syntax.specs.Grammar.{IsTest, IsPart, IsPartAnd, IsCondition, all_of, any_of}
 use Rattle.pm_canonical.specs.Shapes.{Shape, Phrase, sign, word, between, member_shapes, in_parens, list_word, shapes_layer, phrase_of}
 use Rattle.pm_canonical.specs.Same.{unplaced_layer, unplaced_test}
 use Rattle.pm_canonical.proofs.Valid.{ValidLeaf, Role, whole, in_or, in_and, Fits, leaf, negated, any_list, any_in_or, any_in_and, all_list, all_in_or, all_in_and, FitsEach, no_members, member}

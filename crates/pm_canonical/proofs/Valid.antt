@@ -1,5 +1,5 @@
 -- The trees that reading gives.
-use Rattle.std.proofs.Common.{◌≡◌, ◌≤◌, ◌<◌, ◌+◌, ◌^◌, ℕ, suc, zero, ℤ, pos, Bool, true, false, List, [], ◌∷◌, length, map, Option, Some, None, if◌then◌else◌, decimal, unsigned_abs, not}
+use Rattle.std.proofs.Common.{◌≡◌, ◌≤◌, ◌<◌, ◌+◌, ◌^◌, ℕ, suc, ℤ, Bool, true, false, List, [], ◌∷◌, length, Option, Some, None, decimal, unsigned_abs}
 use Rattle.std.specs.Char.{is_ascii_control}
 use Rattle.pm_syntax.specs.declared.tree.PlacedName.{PlacedName}
 use Rattle.pm_syntax.specs.declared.tree.ColumnName.{ColumnName}
@@ -16,7 +16,6 @@ use Rattle.pm_syntax.specs.declared.tree.Atom.TheVariants as atom
 use Rattle.pm_syntax.specs.declared.tree.Comparison.{Comparison}
 use Rattle.pm_syntax.specs.declared.tree.Test.{Test}
 use Rattle.pm_syntax.specs.declared.tree.Test.TheVariants as test
-use Rattle.pm_syntax.specs.declared.tree.OrderItem.{OrderItem}
 use Rattle.pm_syntax.specs.declared.tree.Select.{Select}
 use Rattle.pm_canonical.specs.Canon.{is_plain, padded}
 

@@ -1,5 +1,5 @@
 -- Names, columns, expressions and literals that reading gives are valid.
-use Rattle.std.proofs.Common.{◌≡◌, ◌⊎◌, ◌≤◌, ◌<◌, ◌+◌, ◌^◌, ℕ, suc, zero, ℤ, pos, neg_ℤ, Bool, true, false, not, ◌==◌, List, [], ◌∷◌, length, filter, cond, Option, Some, None, is_some, unwrap_or, if◌then◌else◌, codes, decimal, unsigned_abs, refl, sym, ◌∙◌, ap, arith}
+use Rattle.std.proofs.Common.{◌≡◌, ◌<◌, ◌^◌, ℕ, suc, zero, ℤ, pos, neg_ℤ, Bool, true, false, not, List, [], ◌∷◌, length, filter, cond, Some, unwrap_or, if◌then◌else◌, codes, unsigned_abs, refl, sym, ◌∙◌, ap, arith}
 use Rattle.std.proofs.lemmas.Bool.{and_parts}
 use Rattle.std.specs.List.{find, list_all}
 use Rattle.std.specs.Str.{bytes_eq, str_eq_ignore_ascii_case}
@@ -10,19 +10,14 @@ use Rattle.pm_lexer.specs.declared.token.TokenKind.TheVariants as kind
 use Rattle.pm_lexer.specs.declared.symbol.Symbol.{Symbol}
 use Rattle.pm_lexer.specs.declared.symbol.Symbol.TheVariants as symbol
 use Rattle.pm_lexer.specs.declared.symbol.TheConstants.{RESERVED, SIGNS}
-use Rattle.pm_lexer.specs.Symbol.{is, symbol_of, symbol_at, same_symbol, reserved_word, canonical_sign, sign_of, spelling}
-use Rattle.pm_lexer.specs.Pieces.{content_of, content_at, decimals_len}
-use Rattle.pm_lexer.specs.Language.{Lang, Is}
-use Rattle.pm_syntax.specs.declared.tree.PlacedName.{PlacedName}
-use Rattle.pm_syntax.specs.declared.tree.ColumnName.{ColumnName}
-use Rattle.pm_syntax.specs.Terminals.{named, magnitude, magnitude_of, digits_value}
-use Rattle.pm_syntax.specs.Grammar.{IsName}
-use Rattle.pm_canonical.specs.Canon.{is_plain, padded}
-use Rattle.pm_canonical.proofs.Valid.{Every, ValidName, ValidPlaced, ValidNumber}
-use Rattle.pm_canonical.proofs.Formed.{IsFormed, IsFormedAt, IsPlainName, IsQuotedName, IsNumber}
+use Rattle.pm_lexer.specs.Symbol.{is, symbol_of, symbol_at, same_symbol, reserved_word, canonical_sign, spelling}
+use Rattle.pm_lexer.specs.Pieces.{content_at, decimals_len}
+use Rattle.pm_syntax.specs.Terminals.{named, magnitude, magnitude_of}
+use Rattle.pm_canonical.specs.Canon.{is_plain}
+use Rattle.pm_canonical.proofs.Valid.{ValidName, ValidPlaced, ValidNumber}
+use Rattle.pm_canonical.proofs.Formed.{IsFormed, IsFormedAt, IsNumber}
 use Rattle.pm_canonical.proofs.Runs.{all_both}
 use Rattle.pm_canonical.proofs.Values.{value_small, padded_length}
-use Rattle.pm_canonical.proofs.Sound.{Sound, sound_map, sound_better, sound_token}
 
 -- no reserved word and no sign is of this kind
 abbrev Apart : Symbol → Symbol → Bool

@@ -1,27 +1,22 @@
 -- Expressions, operands and tests that reading gives are valid.
-use Rattle.std.proofs.Common.{◌≡◌, ◌⊎◌, ◌≤◌, ◌<◌, ℕ, suc, zero, pos, neg_ℤ, Bool, true, false, List, [], ◌∷◌, Option, Some, None, is_some, unwrap_or, arith}
+use Rattle.std.proofs.Common.{◌≡◌, ◌⊎◌, pos, neg_ℤ, Bool, true, false, Option, Some, None, is_some, unwrap_or, arith}
 use Rattle.pm_lexer.specs.declared.token.Token.{Token}
 use Rattle.pm_lexer.specs.declared.symbol.Symbol.TheVariants as symbol
 use Rattle.pm_lexer.specs.Symbol.{is}
 use Rattle.pm_lexer.specs.Pieces.{content_of, decimals_len}
-use Rattle.pm_lexer.specs.Language.{Lang, Is, IsList, never}
-use Rattle.pm_syntax.specs.declared.tree.PlacedName.{PlacedName}
-use Rattle.pm_syntax.specs.declared.tree.ColumnName.{ColumnName}
+use Rattle.pm_lexer.specs.Language.{Is, IsList, never}
 use Rattle.pm_syntax.specs.declared.tree.Func.TheVariants as func
-use Rattle.pm_syntax.specs.declared.tree.Expr.{Expr}
 use Rattle.pm_syntax.specs.declared.tree.Expr.TheVariants as expr
-use Rattle.pm_syntax.specs.declared.tree.Literal.{Literal}
 use Rattle.pm_syntax.specs.declared.tree.Literal.TheVariants as literal
 use Rattle.pm_syntax.specs.declared.tree.Atom.{Atom}
 use Rattle.pm_syntax.specs.declared.tree.Atom.TheVariants as atom
 use Rattle.pm_syntax.specs.declared.tree.Comparison.TheVariants as comparison
-use Rattle.pm_syntax.specs.declared.tree.Test.{Test}
 use Rattle.pm_syntax.specs.declared.tree.Test.TheVariants as test
 use Rattle.pm_syntax.specs.Terminals.{named, func_of, magnitude, comparison_of, compares}
 use Rattle.pm_syntax.specs.Grammar.{IsName, IsColumn, counts, IsCountAll, IsCall, IsExpr, IsLiteral, IsTerm, IsOperand, IsOptional, IsCompare, IsNullTest, IsIn, IsBetween, IsTest, IsGiven}
 use Rattle.pm_canonical.proofs.Valid.{Where, ValidList, ValidPlaced, ValidColumn, ValidExpr, ValidLiteral, ValidTerm, ValidAtom, ValidLeaf, compared, null_test, listed, ranged}
 use Rattle.pm_canonical.proofs.Formed.{IsFormed}
-use Rattle.pm_canonical.proofs.Sound.{Sound, sound, sound_token, sound_bind, sound_map, sound_better, sound_behind, sound_or, sound_list}
+use Rattle.pm_canonical.proofs.Sound.{Sound, sound, sound_token, sound_bind, sound_map, sound_behind, sound_or, sound_list}
 use Rattle.pm_canonical.proofs.ValidNames.{placed_valid, number_valid}
 
 pub sound_name : Sound IsName ValidPlaced
@@ -31,16 +26,16 @@ pub sound_column : Sound IsColumn ValidColumn
 sound_column =
     sound_bind IsName (λ first next ts. next (record { alias = None; name = first }) ts ⊎ Is (is symbol.Point) (λ _. IsName (λ name. next (record { alias = Some first; name = name }))) ts) ValidPlaced ValidColumn sound_name
     (λ first valid. sound_or (λ next. next (record { alias = None; name = first })) (λ next. Is (is symbol.Point) (λ _. IsName (λ name. next (record { alias = Some first; name = name })))) ValidColumn
-        (sound ValidColumn (record { alias = None; name = first }) (record { alias = tt; name = valid }))
-        (sound_behind (is symbol.Point) (λ _ next. IsName (λ name. next (record { alias = Some first; name = name }))) ValidColumn
-        (λ _ _ _. sound_map IsName (λ name. record { alias = Some first; name = name }) ValidPlaced ValidColumn sound_name (λ name v. record { alias = valid; name = v }))))
+    (sound ValidColumn (record { alias = None; name = first }) (record { alias = tt; name = valid }))
+    (sound_behind (is symbol.Point) (λ _ next. IsName (λ name. next (record { alias = Some first; name = name }))) ValidColumn
+    (λ _ _ _. sound_map IsName (λ name. record { alias = Some first; name = name }) ValidPlaced ValidColumn sound_name (λ name v. record { alias = valid; name = v }))))
 
 pub sound_given : Sound IsGiven (Where ValidPlaced)
 sound_given =
     sound_or (λ next. next None) (λ next ts. IsName (λ name. next (Some name)) ts ⊎ Is (is symbol.As) (λ _. IsName (λ name. next (Some name))) ts) (Where ValidPlaced) (sound (Where ValidPlaced) None tt)
     (sound_or (λ next. IsName (λ name. next (Some name))) (λ next. Is (is symbol.As) (λ _. IsName (λ name. next (Some name)))) (Where ValidPlaced)
-        (sound_map IsName (λ name. Some name) ValidPlaced (Where ValidPlaced) sound_name (λ name v. v))
-        (sound_behind (is symbol.As) (λ _ next. IsName (λ name. next (Some name))) (Where ValidPlaced) (λ _ _ _. sound_map IsName (λ name. Some name) ValidPlaced (Where ValidPlaced) sound_name (λ name v. v))))
+    (sound_map IsName (λ name. Some name) ValidPlaced (Where ValidPlaced) sound_name (λ name v. v))
+    (sound_behind (is symbol.As) (λ _ next. IsName (λ name. next (Some name))) (Where ValidPlaced) (λ _ _ _. sound_map IsName (λ name. Some name) ValidPlaced (Where ValidPlaced) sound_name (λ name v. v))))
 
 sound_count_all : Sound IsCountAll ValidExpr
 sound_count_all =
@@ -72,10 +67,10 @@ sound_literal =
     (sound_map (Is (is symbol.Number)) (λ n. literal.Number (pos (magnitude n)) (decimals_len n.slice)) Numeral ValidLiteral (sound_token (is symbol.Number)) (λ n v. (number_valid n v.0 v.1).0))
     (sound_or (λ next. Is (is symbol.Minus) (λ _. Is (is symbol.Number) (λ n. next (literal.Number (neg_ℤ (pos (magnitude n))) (decimals_len n.slice))))) _ ValidLiteral
     (sound_behind (is symbol.Minus) (λ _ next. Is (is symbol.Number) (λ n. next (literal.Number (neg_ℤ (pos (magnitude n))) (decimals_len n.slice)))) ValidLiteral
-        (λ _ _ _. sound_map (Is (is symbol.Number)) (λ n. literal.Number (neg_ℤ (pos (magnitude n))) (decimals_len n.slice)) Numeral ValidLiteral (sound_token (is symbol.Number)) (λ n v. (number_valid n v.0 v.1).1)))
+    (λ _ _ _. sound_map (Is (is symbol.Number)) (λ n. literal.Number (neg_ℤ (pos (magnitude n))) (decimals_len n.slice)) Numeral ValidLiteral (sound_token (is symbol.Number)) (λ n v. (number_valid n v.0 v.1).1)))
     (sound_or (λ next. Is (is symbol.Text) (λ text. next (literal.Text (content_of text)))) (λ next. Is (is symbol.Null) (λ _. next literal.Null)) ValidLiteral
-        (sound_behind (is symbol.Text) (λ text next. next (literal.Text (content_of text))) ValidLiteral (λ text _ _. sound ValidLiteral (literal.Text (content_of text)) tt))
-        (sound_behind (is symbol.Null) (λ _ next. next literal.Null) ValidLiteral (λ _ _ _. sound ValidLiteral literal.Null tt))))
+    (sound_behind (is symbol.Text) (λ text next. next (literal.Text (content_of text))) ValidLiteral (λ text _ _. sound ValidLiteral (literal.Text (content_of text)) tt))
+    (sound_behind (is symbol.Null) (λ _ next. next literal.Null) ValidLiteral (λ _ _ _. sound ValidLiteral literal.Null tt))))
 
 sound_term : (grouped : Bool) → Sound (IsTerm grouped) (ValidTerm grouped)
 sound_term true = sound_expr
@@ -109,7 +104,7 @@ sound_in grouped of o valid =
     sound_behind (is symbol.In) (λ w next. Is (is symbol.Open) (λ _. IsList never 256 IsLiteral (is symbol.Comma) (λ l. Is (is symbol.Close) (λ _. next (test.OneOf of l (is_some o) (unwrap_or o w).at))))) (ValidLeaf grouped)
     (λ w _ _. sound_behind (is symbol.Open) (λ _ next. IsList never 256 IsLiteral (is symbol.Comma) (λ l. Is (is symbol.Close) (λ _. next (test.OneOf of l (is_some o) (unwrap_or o w).at)))) (ValidLeaf grouped)
     (λ _ _ _. sound_bind (IsList never 256 IsLiteral (is symbol.Comma)) (λ l next. Is (is symbol.Close) (λ _. next (test.OneOf of l (is_some o) (unwrap_or o w).at))) (ValidList 256 ValidLiteral) (ValidLeaf grouped)
-        (sound_list 256 IsLiteral (is symbol.Comma) ValidLiteral (omega arith) sound_literal)
+    (sound_list 256 IsLiteral (is symbol.Comma) ValidLiteral (omega arith) sound_literal)
     (λ l v. sound_behind (is symbol.Close) (λ _ next. next (test.OneOf of l (is_some o) (unwrap_or o w).at)) (ValidLeaf grouped)
     (λ _ _ _. sound (ValidLeaf grouped) (test.OneOf of l (is_some o) (unwrap_or o w).at) (listed of l (is_some o) (unwrap_or o w).at valid v)))))
 

@@ -1,14 +1,12 @@
 -- Statements that reading gives are valid.
-use Rattle.std.proofs.Common.{◌≡◌, ◌⊎◌, ◌≤◌, ◌<◌, ℕ, suc, zero, Bool, true, false, List, [], ◌∷◌, ◌++◌, length, get_or, Option, Some, None, is_some, refl, sym, ◌∙◌, ap, subst, arith, length-append}
+use Rattle.std.proofs.Common.{◌≡◌, ◌⊎◌, suc, Bool, true, false, List, [], ◌∷◌, length, Option, Some, None, is_some, refl, sym, ap, subst, arith, length-append}
 use Rattle.std.specs.List.{All}
 use Rattle.pm_lexer.specs.declared.token.Token.{Token}
 use Rattle.pm_lexer.specs.declared.symbol.Symbol.{Symbol}
 use Rattle.pm_lexer.specs.declared.symbol.Symbol.TheVariants as symbol
 use Rattle.pm_lexer.specs.Symbol.{is}
 use Rattle.pm_lexer.specs.Language.{Lang, Is, IsFurther, IsList, never}
-use Rattle.pm_syntax.specs.declared.tree.PlacedName.{PlacedName}
 use Rattle.pm_syntax.specs.declared.tree.ColumnName.{ColumnName}
-use Rattle.pm_syntax.specs.declared.tree.Item.{Item}
 use Rattle.pm_syntax.specs.declared.tree.Items.{Items}
 use Rattle.pm_syntax.specs.declared.tree.Items.TheVariants as items
 use Rattle.pm_syntax.specs.declared.tree.Source.{Source}
@@ -19,7 +17,7 @@ use Rattle.pm_syntax.specs.Grammar.{IsName, IsColumn, IsExpr, IsGiven, IsItem, I
 use Rattle.pm_syntax.specs.Statement.{Whole, Reads}
 use Rattle.pm_canonical.proofs.Valid.{Every, Where, ValidList, ValidPart, ValidPlaced, ValidColumn, ValidExpr, ValidItem, ValidItems, ValidSource, Unjoined, Fits, whole, Valid}
 use Rattle.pm_canonical.proofs.Formed.{IsFormed}
-use Rattle.pm_canonical.proofs.Sound.{Sound, Gave, Grown, sound, sound_bind, sound_map, sound_better, sound_behind, sound_or, sound_further, sound_list}
+use Rattle.pm_canonical.proofs.Sound.{Sound, Grown, sound, sound_bind, sound_map, sound_better, sound_behind, sound_or, sound_further, sound_list}
 use Rattle.pm_canonical.proofs.ValidReads.{sound_name, sound_column, sound_given, sound_expr, sound_optional}
 use Rattle.pm_canonical.proofs.ValidTests.{sound_condition}
 
@@ -63,8 +61,8 @@ sound_join : Sound IsJoin Nothing
 sound_join =
     sound_or (λ next. Is (is symbol.Comma) (λ _. next false)) _ Nothing (sound_behind (is symbol.Comma) (λ _ next. next false) Nothing (λ _ _ _. sound Nothing false tt))
     (sound_or (λ next. Is (is symbol.Join) (λ _. next true)) (λ next. Is (is symbol.Inner) (λ _. Is (is symbol.Join) (λ _. next true))) Nothing
-        (sound_behind (is symbol.Join) (λ _ next. next true) Nothing (λ _ _ _. sound Nothing true tt))
-        (sound_behind (is symbol.Inner) (λ _ next. Is (is symbol.Join) (λ _. next true)) Nothing (λ _ _ _. sound_behind (is symbol.Join) (λ _ next. next true) Nothing (λ _ _ _. sound Nothing true tt))))
+    (sound_behind (is symbol.Join) (λ _ next. next true) Nothing (λ _ _ _. sound Nothing true tt))
+    (sound_behind (is symbol.Inner) (λ _ next. Is (is symbol.Join) (λ _. next true)) Nothing (λ _ _ _. sound_behind (is symbol.Join) (λ _ next. next true) Nothing (λ _ _ _. sound Nothing true tt))))
 
 record ValidSources (sources : List Source) : Type 0 where
   list : ValidList 64 ValidSource sources
@@ -80,7 +78,7 @@ sound_sources : Sound (IsSources 32 never) ValidSources
 sound_sources =
     sound_bind (IsSource 32 never false) (λ first. IsFurther never 64 IsJoin (IsSource 32 never) (first ∷ [])) (ValidJoined false) ValidSources (sound_source false)
     (λ first v. sound_better (IsFurther never 64 IsJoin (IsSource 32 never) (first ∷ [])) (Grown 64 ValidSource (first ∷ [])) ValidSources (grown_sources first (v.alone refl))
-        (sound_further 64 IsJoin (IsSource 32 never) ValidSource sound_join (λ joined. sound_better (IsSource 32 never joined) (ValidJoined joined) ValidSource (λ s w. w.source) (sound_source joined)) (first ∷ []) (v.source, tt) (omega arith)))
+    (sound_further 64 IsJoin (IsSource 32 never) ValidSource sound_join (λ joined. sound_better (IsSource 32 never joined) (ValidJoined joined) ValidSource (λ s w. w.source) (sound_source joined)) (first ∷ []) (v.source, tt) (omega arith)))
 
 -- the parts that may be left out
 sound_where : (s : Symbol) (grouped : Bool) → Sound (λ next ts. next None ts ⊎ Is (is s) (λ _. IsCondition grouped 32 never (λ cond. next (Some cond))) ts) (Where (Fits grouped whole 32))
@@ -100,8 +98,8 @@ sound_direction : Sound IsDirection Nothing
 sound_direction =
     sound_or (λ next. next false) _ Nothing (sound Nothing false tt)
     (sound_or (λ next. Is (is symbol.Asc) (λ _. next false)) (λ next. Is (is symbol.Desc) (λ _. next true)) Nothing
-        (sound_behind (is symbol.Asc) (λ _ next. next false) Nothing (λ _ _ _. sound Nothing false tt))
-        (sound_behind (is symbol.Desc) (λ _ next. next true) Nothing (λ _ _ _. sound Nothing true tt)))
+    (sound_behind (is symbol.Asc) (λ _ next. next false) Nothing (λ _ _ _. sound Nothing false tt))
+    (sound_behind (is symbol.Desc) (λ _ next. next true) Nothing (λ _ _ _. sound Nothing true tt)))
 
 abbrev ValidKey : OrderItem → Type 0
 ValidKey key = ValidExpr key.expr
@@ -124,19 +122,19 @@ Later f next =
 
 sound_later : (f : List Source → Option Test → List ColumnName → Option Test → List OrderItem → Select)
     → ((sources : List Source) (filter : Option Test) (groups : List ColumnName) (having : Option Test) (orders : List OrderItem)
-        → ValidSources sources → Where (Fits false whole 32) filter → ValidPart 64 ValidColumn groups → Where (Fits true whole 32) having → ValidPart 64 ValidKey orders → Valid (f sources filter groups having orders))
+    → ValidSources sources → Where (Fits false whole 32) filter → ValidPart 64 ValidColumn groups → Where (Fits true whole 32) having → ValidPart 64 ValidKey orders → Valid (f sources filter groups having orders))
     → Sound (Later f) Valid
 sound_later f valid =
     sound_bind (IsSources 32 never) (λ sources next. IsFilter 32 never (λ filter. IsGroups never (λ groups. IsHaving 32 never (λ having. IsOrders never (λ orders. IsOptional (is symbol.Semicolon) (λ _. Is (is symbol.End) (λ _.
-        next (f sources filter groups having orders)))))))) ValidSources Valid sound_sources
+    next (f sources filter groups having orders)))))))) ValidSources Valid sound_sources
     (λ sources v1. sound_bind (IsFilter 32 never) (λ filter next. IsGroups never (λ groups. IsHaving 32 never (λ having. IsOrders never (λ orders. IsOptional (is symbol.Semicolon) (λ _. Is (is symbol.End) (λ _.
-        next (f sources filter groups having orders))))))) (Where (Fits false whole 32)) Valid (sound_where symbol.Where false)
+    next (f sources filter groups having orders))))))) (Where (Fits false whole 32)) Valid (sound_where symbol.Where false)
     (λ filter v2. sound_bind (IsGroups never) (λ groups next. IsHaving 32 never (λ having. IsOrders never (λ orders. IsOptional (is symbol.Semicolon) (λ _. Is (is symbol.End) (λ _.
-        next (f sources filter groups having orders)))))) (ValidPart 64 ValidColumn) Valid (sound_by symbol.Group IsColumn ValidColumn sound_column)
+    next (f sources filter groups having orders)))))) (ValidPart 64 ValidColumn) Valid (sound_by symbol.Group IsColumn ValidColumn sound_column)
     (λ groups v3. sound_bind (IsHaving 32 never) (λ having next. IsOrders never (λ orders. IsOptional (is symbol.Semicolon) (λ _. Is (is symbol.End) (λ _.
-        next (f sources filter groups having orders))))) (Where (Fits true whole 32)) Valid (sound_where symbol.Having true)
+    next (f sources filter groups having orders))))) (Where (Fits true whole 32)) Valid (sound_where symbol.Having true)
     (λ having v4. sound_bind (IsOrders never) (λ orders next. IsOptional (is symbol.Semicolon) (λ _. Is (is symbol.End) (λ _.
-        next (f sources filter groups having orders)))) (ValidPart 64 ValidKey) Valid (sound_by symbol.Order IsKey ValidKey sound_key)
+    next (f sources filter groups having orders)))) (ValidPart 64 ValidKey) Valid (sound_by symbol.Order IsKey ValidKey sound_key)
     (λ orders v5. sound_end (f sources filter groups having orders) (valid sources filter groups having orders v1 v2 v3 v4 v5))))))
 
 abbrev built : Option Token → Items → List Source → Option Test → List ColumnName → Option Test → List OrderItem → Select

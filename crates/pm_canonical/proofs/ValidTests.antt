@@ -1,11 +1,11 @@
 -- Conditions that reading gives fit.
-use Rattle.std.proofs.Common.{◌≡◌, ◌⊎◌, ◌≤◌, ◌<◌, ℕ, suc, zero, Bool, true, false, List, [], ◌∷◌, length, arith}
+use Rattle.std.proofs.Common.{ℕ, suc, zero, Bool, List, [], ◌∷◌, arith}
 use Rattle.pm_lexer.specs.declared.symbol.Symbol.TheVariants as symbol
 use Rattle.pm_lexer.specs.Symbol.{is}
-use Rattle.pm_lexer.specs.Language.{Lang, Is, IsList, never}
+use Rattle.pm_lexer.specs.Language.{Is, IsList, never}
 use Rattle.pm_syntax.specs.declared.tree.Test.{Test}
 use Rattle.pm_syntax.specs.declared.tree.Test.TheVariants as test
-use Rattle.pm_syntax.specs.Grammar.{IsTest, IsPart, IsPartAnd, IsCond, IsCondition, all_of, any_of}
+use Rattle.pm_syntax.specs.Grammar.{IsTest, IsPart, IsPartAnd, IsCondition, all_of, any_of}
 use Rattle.pm_canonical.proofs.Valid.{Every, ValidList, ValidLeaf, Role, whole, in_or, in_and, Fits, leaf, negated, any_list, any_in_or, any_in_and, all_list, all_in_or, all_in_and, FitsEach, no_members, member}
 use Rattle.pm_canonical.proofs.Sound.{Sound, sound, sound_bind, sound_map, sound_better, sound_behind, sound_or, sound_list}
 use Rattle.pm_canonical.proofs.ValidReads.{sound_test}
@@ -64,8 +64,8 @@ sound_cond : (grouped : Bool) (d : ℕ) → Sound (IsPart grouped d never) (Fits
 sound_cond grouped d part =
     sound_map (IsList never 256 (IsPartAnd never (IsPart grouped d never)) (is symbol.Or)) any_of (ValidList 256 (Fits grouped in_or d)) (Fits grouped whole d)
     (sound_list 256 (IsPartAnd never (IsPart grouped d never)) (is symbol.Or) (Fits grouped in_or d) (omega arith)
-        (sound_map (IsList never 256 (IsPart grouped d never) (is symbol.And)) all_of (ValidList 256 (Fits grouped in_and d)) (Fits grouped in_or d)
-        (sound_list 256 (IsPart grouped d never) (is symbol.And) (Fits grouped in_and d) (omega arith) part) (all_fits grouped d)))
+    (sound_map (IsList never 256 (IsPart grouped d never) (is symbol.And)) all_of (ValidList 256 (Fits grouped in_and d)) (Fits grouped in_or d)
+    (sound_list 256 (IsPart grouped d never) (is symbol.And) (Fits grouped in_and d) (omega arith) part) (all_fits grouped d)))
     (any_fits grouped d)
 
 sound_part : (grouped : Bool) (d : ℕ) → Sound (IsPart grouped d never) (Fits grouped in_and d)
@@ -75,11 +75,11 @@ sound_part grouped (suc d) =
     let part = sound_part grouped d in
     sound_or (λ next. Is (is symbol.Not) (λ _. IsPart grouped d never (λ part. next (test.Not part)))) _ (Fits grouped in_and (suc d))
     (sound_behind (is symbol.Not) (λ _ next. IsPart grouped d never (λ part. next (test.Not part))) (Fits grouped in_and (suc d))
-        (λ _ _ _. sound_map (IsPart grouped d never) (λ t. test.Not t) (Fits grouped in_and d) (Fits grouped in_and (suc d)) part (λ t fits. negated in_and d t fits)))
+    (λ _ _ _. sound_map (IsPart grouped d never) (λ t. test.Not t) (Fits grouped in_and d) (Fits grouped in_and (suc d)) part (λ t fits. negated in_and d t fits)))
     (sound_or (λ next. Is (is symbol.Open) (λ _. IsCondition grouped d never (λ cond. Is (is symbol.Close) (λ _. next cond)))) (IsTest grouped never) (Fits grouped in_and (suc d))
     (sound_behind (is symbol.Open) (λ _ next. IsCondition grouped d never (λ cond. Is (is symbol.Close) (λ _. next cond))) (Fits grouped in_and (suc d))
-        (λ _ _ _. sound_bind (IsCondition grouped d never) (λ cond next. Is (is symbol.Close) (λ _. next cond)) (Fits grouped whole d) (Fits grouped in_and (suc d)) (sound_cond grouped d part)
-        (λ cond fits. sound_behind (is symbol.Close) (λ _ next. next cond) (Fits grouped in_and (suc d)) (λ _ _ _. sound (Fits grouped in_and (suc d)) cond (and_from_whole grouped d cond fits)))))
+    (λ _ _ _. sound_bind (IsCondition grouped d never) (λ cond next. Is (is symbol.Close) (λ _. next cond)) (Fits grouped whole d) (Fits grouped in_and (suc d)) (sound_cond grouped d part)
+    (λ cond fits. sound_behind (is symbol.Close) (λ _ next. next cond) (Fits grouped in_and (suc d)) (λ _ _ _. sound (Fits grouped in_and (suc d)) cond (and_from_whole grouped d cond fits)))))
     (sound_better (IsTest grouped never) (ValidLeaf grouped) (Fits grouped in_and (suc d)) (λ t valid. leaf in_and (suc d) t valid) (sound_test grouped)))
 
 pub sound_condition : (grouped : Bool) (d : ℕ) → Sound (IsCondition grouped d never) (Fits grouped whole d)

@@ -1,6 +1,5 @@
 -- The words and the signs of canonical text.
-use Rattle.std.proofs.Common.{◌≡◌, ◌<◌, ◌≤◌, ◌+◌, ℕ, suc, zero, Bool, true, false, List, [], ◌∷◌, ◌++◌, length, take, Option, Some, None, Result, Ok, Err, if◌then◌else◌, ◌==◌, ◌&&◌, nat_le, codes, refl, sym, ◌∙◌, ap, arith}
-use Rattle.std.specs.List.{starts_with}
+use Rattle.std.proofs.Common.{◌≡◌, ◌<◌, ◌≤◌, ℕ, Bool, true, false, List, [], ◌∷◌, ◌++◌, length, Ok, ◌==◌, nat_le, codes, refl, ◌∙◌, arith}
 use Rattle.std.specs.Option.{is_some}
 use Rattle.std.specs.Char.{is_ascii_digit}
 use Rattle.std.proofs.lemmas.Bool.{and_right, and_left, ne_eqb, le-leb, leb-true, eqb-true}
@@ -11,9 +10,9 @@ use Rattle.pm_lexer.specs.declared.symbol.Symbol.{Symbol}
 use Rattle.pm_lexer.specs.declared.symbol.Symbol.TheVariants as symbol
 use Rattle.pm_lexer.specs.Symbol.{spelling, reserved_word, canonical_sign, sign_of}
 use Rattle.pm_lexer.specs.Head.{sign_at, head_of}
-use Rattle.pm_canonical.specs.Shapes.{Shape, word, sign}
+use Rattle.pm_canonical.specs.Shapes.{word, sign}
 use Rattle.pm_canonical.proofs.Runs.{Follows}
-use Rattle.pm_canonical.proofs.Spelling.{Opens, Spells, any, ends, stops, spells_gap, spells_piece, spells_weaker, spells_at, spells_after, spells_both, anything}
+use Rattle.pm_canonical.proofs.Spelling.{Spells, any, ends, stops, spells_gap, spells_piece, spells_weaker, spells_at, spells_after}
 use Rattle.pm_canonical.proofs.Heads.{is_wordy, word_opens}
 
 -- a reserved word, and a name

@@ -1,5 +1,5 @@
 -- The canonical text of a statement.
-use Rattle.std.specs.Prelude.{ℕ, zero, suc, ℤ, Bool, true, false, not, ◌==◌, ◌&&◌, ◌-◌, ◌+◌, List, [], ◌∷◌, ◌++◌, Option, Some, None, if◌then◌else◌, codes, is_some, length, take, drop, map, replicate, decimal, unsigned_abs, int_lt, pos}
+use Rattle.std.specs.Prelude.{ℕ, ℤ, Bool, true, false, not, ◌==◌, ◌&&◌, ◌-◌, ◌+◌, List, [], ◌∷◌, ◌++◌, Option, Some, None, if◌then◌else◌, codes, is_some, length, take, drop, map, replicate, decimal, unsigned_abs, int_lt, pos}
 use Rattle.std.specs.List.{flat_map, list_all}
 use Rattle.pm_lexer.specs.Byte.{is_letter, is_word}
 use Rattle.pm_lexer.specs.Symbol.{reserved_word}

@@ -1,5 +1,5 @@
 -- Trees that agree in all but places.
-use Rattle.std.specs.Prelude.{◌≡◌, List, map, Option, Some, None}
+use Rattle.std.specs.Prelude.{◌≡◌, map, Option, Some, None}
 use Rattle.pm_syntax.specs.declared.tree.PlacedName.{PlacedName}
 use Rattle.pm_syntax.specs.declared.tree.ColumnName.{ColumnName}
 use Rattle.pm_syntax.specs.declared.tree.Expr.{Expr}

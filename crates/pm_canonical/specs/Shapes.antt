@@ -1,5 +1,5 @@
 -- The tokens of canonical text, without their places.
-use Rattle.std.specs.Prelude.{ℕ, zero, suc, ℤ, Bool, true, false, not, ◌==◌, ◌&&◌, ◌-◌, ◌+◌, List, [], ◌∷◌, ◌++◌, Option, Some, None, if◌then◌else◌, codes, length, map, decimal, unsigned_abs, int_lt, pos}
+use Rattle.std.specs.Prelude.{ℕ, ℤ, Bool, true, false, not, ◌+◌, List, [], ◌∷◌, ◌++◌, Option, Some, None, if◌then◌else◌, codes, map, decimal, unsigned_abs, int_lt, pos}
 use Rattle.std.specs.List.{flat_map}
 use Rattle.pm_lexer.specs.declared.token.Token.{Token}
 use Rattle.pm_lexer.specs.declared.token.TokenKind.{TokenKind}

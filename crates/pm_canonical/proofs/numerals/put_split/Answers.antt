@@ -1,5 +1,4 @@
-use Rattle.std.proofs.Common.{◌≡◌, ◌++◌, ◌+◌, List, ℕ, sym, ◌∙◌, ap, append_assoc, string_bytes, refl}
-use Rattle.pm_canonical.specs.Canon.{pointed, padded}
+use Rattle.std.proofs.Common.{◌≡◌, ◌++◌, List, ℕ, append_assoc, string_bytes}
 use Rattle.pm_canonical.proofs.Points.{pointed_long}
 use Rattle.pm_canonical.proofs.numerals.put_split.Goals as goal
 

@@ -1,6 +1,5 @@
-use Rattle.std.proofs.Common.{rules, ◌≡◌, ◌++◌, ◌∷◌, [], take, drop, length, arith, sym, ◌∙◌, ap, refl, string_bytes}
+use Rattle.std.proofs.Common.{rules, ◌++◌, sym, ◌∙◌, ap, refl, string_bytes}
 use Rattle.pm_lexer.proofs.QuoteEnds.{boundary_behind_quote}
-use Rattle.pm_canonical.specs.Canon.{doubled}
 use Rattle.pm_canonical.proofs.Doubling.{doubled_more, doubled_none}
 use Rattle.pm_canonical.proofs.words.put_doubled.Goals as goal
 
