@@ -9,6 +9,10 @@ use Rattle.pm_lexer.specs.Language.{Lang, Is, never, IsMore, IsFurther, IsList}
 use Rattle.pm_canonical.specs.Shapes.{Shape, shape_of, between}
 use Rattle.pm_canonical.proofs.Valid.{Every}
 
+-- a value, and nothing behind it
+abbrev pub Whole : {A : Type 0} → A → A → List Token → Type 0
+Whole value found rest = (found ≡ value) × (rest ≡ [])
+
 -- tokens that stand for two parts
 pub record Split (front : List Token) (a b : List Shape) : Type 0 where
   pub first : List Token

@@ -12,11 +12,11 @@ use Rattle.pm_syntax.specs.declared.tree.Test.{Test}
 use Rattle.pm_syntax.specs.declared.tree.OrderItem.{OrderItem}
 use Rattle.pm_syntax.specs.declared.tree.Select.{Select}
 use Rattle.pm_syntax.specs.Grammar.{IsOptional, IsItems, IsSources, IsFilter, IsGroups, IsHaving, IsOrders, IsSelect}
-use Rattle.pm_syntax.specs.Statement.{Whole, Reads}
+use Rattle.pm_syntax.specs.Statement.{Reads}
 use Rattle.pm_canonical.specs.Shapes.{Shape, shape_of, end_shape, word, shapes_column, shapes_items, shapes_sources, shapes_condition, shapes_list, shapes_key, shapes_select}
 use Rattle.pm_canonical.specs.Same.{unplaced, SameTree}
 use Rattle.pm_canonical.proofs.Valid.{Valid}
-use Rattle.pm_canonical.proofs.Combinators.{Reading, Stands, stands_is, pure, left, bind, behind}
+use Rattle.pm_canonical.proofs.Combinators.{Whole, Reading, Stands, stands_is, pure, left, bind, behind}
 use Rattle.pm_canonical.proofs.Standing.{stands_select, stands_distinct, stands_from}
 use Rattle.pm_canonical.proofs.LeafReadings.{optional_read}
 use Rattle.pm_canonical.proofs.PartsReadings.{SameItems, SameSources, SameCondition, SameColumns, SameKeys, items_read, sources_read, filter_read, groups_read, having_read, orders_read}

@@ -14,7 +14,8 @@ use Rattle.pm_syntax.specs.declared.tree.Test.{Test}
 use Rattle.pm_syntax.specs.declared.tree.OrderItem.{OrderItem}
 use Rattle.pm_syntax.specs.declared.tree.Select.{Select}
 use Rattle.pm_syntax.specs.Grammar.{IsName, IsColumn, IsExpr, IsGiven, IsItem, IsItems, IsCondition, IsJoin, IsOn, IsSource, IsSources, IsFilter, IsGroups, IsHaving, IsDirection, IsKey, IsOrders, IsOptional, IsSelect}
-use Rattle.pm_syntax.specs.Statement.{Whole, Reads}
+use Rattle.pm_syntax.specs.Statement.{Reads}
+use Rattle.pm_canonical.proofs.Combinators.{Whole}
 use Rattle.pm_canonical.proofs.Valid.{Every, Where, ValidList, ValidPart, ValidPlaced, ValidColumn, ValidExpr, ValidItem, ValidItems, ValidSource, Unjoined, Fits, whole, Valid}
 use Rattle.pm_canonical.proofs.Formed.{IsFormed}
 use Rattle.pm_canonical.proofs.Sound.{Sound, Grown, sound, sound_bind, sound_map, sound_better, sound_behind, sound_or, sound_further, sound_list}

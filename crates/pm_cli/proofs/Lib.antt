@@ -1,11 +1,3 @@
-pub mod Parts
-pub mod Schemas
-pub mod Queries
-pub mod Numbers
-pub mod Tables
-pub mod Readings
-pub mod Verdicts
-pub mod Loading
 pub mod BoundLists
 pub mod PipeLists
 pub mod Drops

@@ -77,7 +77,7 @@ row-over table (suc k) declared is =
     let columns = table.decl.columns in
     let rows : AllByRecursion (FitsColumns columns) table.rows = recursion_from_All (FitsColumns columns) table.rows declared.fit in
     let whole : rows_at 1 es ≡ table.rows = rows_at-events (table ∷ []) (tree_over table.decl) 1 ∙ pick-all columns table.rows rows in
-    fits-kinds columns (row_in (slice_get es k)) (recursion_from_All HasScale columns declared.scales)
+    fits-kinds columns (row_in (slice_get es k)) (recursion_from_All HasScale columns declared.declared.scales)
     (row-among (FitsColumns columns) 1 es k (subst (AllByRecursion (FitsColumns columns)) (sym whole) rows) is)
 
 row-under : (plan : Plan) (db : Db) (taken : ℕ) → Fits plan db → All IsRelation db

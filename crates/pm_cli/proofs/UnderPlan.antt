@@ -67,5 +67,5 @@ pub kinds-few : (plan : Plan) (db : Db) → Fits plan db → All IsRelation db �
 kinds-few plan [] fits declared = absurd fits
 kinds-few plan (table ∷ []) fits declared =
     let one : IsRelation table = (recursion_from_All IsRelation (table ∷ []) declared).0 in
-    omega (arith, one.narrow, ap (λ p. length p.kinds) fits, length-map table.decl.columns (λ column. column.kind))
+    omega (arith, one.declared.narrow, ap (λ p. length p.kinds) fits, length-map table.decl.columns (λ column. column.kind))
 kinds-few plan (table ∷ other ∷ tables) fits declared = absurd fits

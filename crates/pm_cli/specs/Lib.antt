@@ -1,10 +1,4 @@
 pub mod Status
-pub mod Refusal
-pub mod Forms
-pub mod Reading
-pub mod Worked
-pub mod Verdict
-pub mod Stops
 pub mod Bounds
 pub mod Pipelines
 pub mod Estimates

@@ -1,5 +1,5 @@
 //! The plan of a statement.
-ghost use Rattle.std.specs.Prelude.{◌≡◌, ◌≤◌, length, map, IfOk};
+ghost use Rattle.std.specs.Prelude.{◌≡◌, map, IfOk};
 ghost use Rattle.pm_plan.specs.Fits.{below, plan_over};
 
 use pm_plan::{Label, Node, Nodes, Plan};
@@ -8,13 +8,12 @@ use std::alloc::{AllocError, Global};
 
 /// The plan that hands out all columns of a table, in order, over its scan.
 pub fn plan_of(alloc: Global, decl: &TableDecl) -> Result<Plan, AllocError>
-    requires { length decl.now.columns ≤ 64 }
     ensures { IfOk result (λ plan. plan ≡ plan_over decl.now) }
 {
-    let columns = columns_below(alloc, decl.columns.len() as u32)?;
+    let columns = columns_below(alloc, decl.columns().len() as u32)?;
     let label = Label {
-        table: decl.name.copy(alloc)?,
-        alias: decl.name.copy(alloc)?,
+        table: decl.name().copy(alloc)?,
+        alias: decl.name().copy(alloc)?,
     };
     let mut nodes = Nodes::new(alloc);
     nodes.push(Node::Project { child: 2, columns })?;
@@ -40,7 +39,7 @@ fn names_of(alloc: Global, decl: &TableDecl) -> Result<Names, AllocError>
     ensures { IfOk result (λ names. names ≡ map (λ column. column.name) decl.now.columns) }
 {
     let mut names = Names::new(alloc);
-    for column in decl.columns.as_slice() {
+    for column in decl.columns().as_slice() {
         names.push(column.name.copy(alloc)?)?;
     }
     Ok(names)
@@ -50,7 +49,7 @@ fn kinds_of(alloc: Global, decl: &TableDecl) -> Result<Kinds, AllocError>
     ensures { IfOk result (λ kinds. kinds ≡ map (λ column. column.kind) decl.now.columns) }
 {
     let mut kinds = Kinds::new(alloc);
-    for column in decl.columns.as_slice() {
+    for column in decl.columns().as_slice() {
         kinds.push(column.kind)?;
     }
     Ok(kinds)

@@ -8,9 +8,6 @@ pub mod build;
 pub mod certified;
 pub mod estim;
 pub mod exec;
-pub mod forms;
-pub mod load;
-pub mod refusal;
 pub mod run;
 pub mod status;
 #[cfg(test)]
@@ -19,7 +16,8 @@ pub mod top;
 
 use pm_io::{OsFiles, OsSink};
 use pm_values::{OpenGate, Txt};
-pub use status::{Role, Status};
+pub use pm_inputs::Role;
+pub use status::Status;
 use std::alloc::{AllocError, Global};
 use std::env;
 use std::io::ErrorKind;

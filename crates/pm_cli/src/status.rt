@@ -1,15 +1,11 @@
 //! How a command ends.
 
 ghost use Rattle.std.specs.Prelude.{◌≡◌};
-ghost use Rattle.pm_cli.specs.Status.{code_of};
+ghost use Rattle.pm_cli.specs.Status.{code_of, status_of};
 
-/// What a file is for. Tables are counted by their place in the schema, from 0.
-#[derive(Clone, Copy, Debug, PartialEq, Eq)]
-pub enum Role {
-    Schema,
-    Query,
-    Table(u32),
-}
+use pm_inputs::{Refusal, Role};
+use pm_lines::Word;
+use pm_tables::DataBad;
 
 /// How a command ended.
 #[derive(Clone, Copy, Debug, PartialEq, Eq)]
@@ -18,19 +14,50 @@ pub enum Status {
     Done,
     /// The words are not those of a command.
     Usage,
+    /// The schema's file is refused: why, and at which byte, from 0; its limit in bytes where it is too long.
+    Schema { word: Word, at: u64 },
+    /// The query's file is refused, as a schema's is.
+    Query { word: Word, at: u64 },
+    /// The file of this table, counted by its place in the schema from 0, is refused. The fault is never want of memory.
+    Table { table: u32, fault: DataBad },
     /// There is no file of this role's name.
     NoFile { role: Role },
     /// The file of this role could not be read to its end.
     ReadFault { role: Role },
     /// The output could not be written.
     WriteFault,
-    /// A file is longer than its limit, or not of the form that is taken so far.
+    /// The query is not one that is run so far.
     NotBuilt,
     /// There was no memory.
     NoMemory,
 }
 
 impl Status {
+    /// The status of a command that stops before it has its table.
+    pub fn of(refusal: &Refusal) -> Status
+        ensures { result ≡ status_of refusal.now }
+    {
+        match refusal {
+            Refusal::Usage => Status::Usage,
+            Refusal::NoFile { role, .. } => Status::NoFile { role: *role },
+            Refusal::ReadFault { role, .. } => Status::ReadFault { role: *role },
+            Refusal::Schema(fault) => Status::Schema {
+                word: fault.word,
+                at: fault.at,
+            },
+            Refusal::Query(fault) => Status::Query {
+                word: fault.word,
+                at: fault.at,
+            },
+            Refusal::Table { table, fault, .. } => Status::Table {
+                table: *table,
+                fault: *fault,
+            },
+            Refusal::NotBuilt => Status::NotBuilt,
+            Refusal::NoMemory => Status::NoMemory,
+        }
+    }
+
     /// The exit code of the process.
     pub fn code(&self) -> u8
         ensures { result ≡ code_of self.now }
@@ -38,6 +65,9 @@ impl Status {
         match self {
             Status::Done => 0,
             Status::Usage => 1,
+            Status::Schema { .. } => 2,
+            Status::Query { .. } => 3,
+            Status::Table { .. } => 5,
             Status::NoFile { .. } => 6,
             Status::ReadFault { .. } => 7,
             Status::WriteFault => 8,

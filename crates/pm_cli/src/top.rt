@@ -1,22 +1,24 @@
 //! The top call: from the command's words to the status with which the program ends.
-ghost use Rattle.std.specs.Prelude.{◌≡◌, ◌≤◌, ◌⊎◌, ◌↔◌, [], ◌∷◌, true, Some, Err, IfSome, OnOk};
+ghost use Rattle.std.specs.Prelude.{◌≡◌, ◌≤◌, ◌⊎◌, ◌↔◌, List, ℕ, Result, [], ◌∷◌, true, Some, Ok, Err, IfSome, OnOk, OnErr};
 ghost use Rattle.pm_values.specs.Table.{Relation, IsRelation};
 ghost use Rattle.pm_io.specs.declared.stand.Stand.TheVariants as stand;
 ghost use Rattle.pm_io.specs.Counts.{Rose};
 ghost use Rattle.pm_io.specs.Sink.{gained};
 ghost use Rattle.pm_plan.specs.Fits.{plan_over};
-ghost use Rattle.pm_cli.specs.Verdict.{Verdict, Calls, Loaded, IsNoRun, Reaches};
+ghost use Rattle.pm_inputs.specs.declared.refusal.Refusal.{Refusal as Refused};
+ghost use Rattle.pm_inputs.specs.Calls.{Calls, IsNoRun};
+ghost use Rattle.pm_inputs.specs.Stops.{Reaches};
 ghost use Rattle.pm_cli.specs.Certified.{AreCertified};
-ghost use Rattle.pm_cli.specs.Refusal.{status_of};
-ghost use Rattle.pm_cli.specs.Answers.{Explains, IsAnswerTo, IsSetback, refusal_text, refusal_line_of, table_text, OnAbsent, OnBroken, IfRole};
+ghost use Rattle.pm_cli.specs.Status.{status_of};
+ghost use Rattle.pm_cli.specs.Answers.{Explains, IsAnswerTo, IsSetback, IsRefused, IsLineOf, line_of, data_line, table_text, OnAbsent, OnBroken, IfRole, HasFault};
 
 use crate::build::plan_of;
-use crate::load::load;
-use crate::refusal::Refusal;
 use crate::run::run_all;
 use crate::status::Status;
-use pm_io::{Files, Sink};
+use pm_inputs::{Refusal, load};
+use pm_io::{Files, Sink, WriteFault};
 use pm_lines::{LineBad, Values, Word, put_refusal};
+use pm_tables::DataBad;
 use pm_values::{Db, Gate, Table, Txt};
 use std::alloc::{AllocError, Global};
 use std::thread::Threads;
@@ -35,19 +37,20 @@ pub fn monitor_main<R: Threads, F: Files, S: Sink, G: Gate>(
 ) -> Status
     // The text is that of the table's plan, and its numbers are certified.
     ensures text { result ≡ Status.Done → IfSome (F.held files.old) (λ held. (table : Relation)
-        → Calls words.now held (Loaded table) → S.written out.new ≡ gained (S.written out.old) (table_text table)) }
+        → Calls words.now held (Ok table) → S.written out.new ≡ gained (S.written out.old) (table_text table)) }
     ensures certified { result ≡ Status.Done → IfSome (F.held files.old) (λ held. (table : Relation)
-        → Calls words.now held (Loaded table) → AreCertified (plan_over table.decl) (table ∷ [])) }
+        → Calls words.now held (Ok table) → AreCertified (plan_over table.decl) (table ∷ [])) }
     ensures finished { result ≡ Status.Done → IfSome (S.finished out.new) (λ finished. finished ≡ true) }
 
     // Where the files' bytes are told, the answer is what they call for, unless a setback came.
     ensures explained { IfSome (F.held files.old) (λ held. Explains words.now held result) }
-    ensures only { IfSome (F.held files.old) (λ held. (verdict : Verdict) → Calls words.now held verdict
-        → IsAnswerTo verdict result ⊎ IsSetback result) }
-    ensures complete { IfSome (F.held files.old) (λ held. (table : Relation) → Calls words.now held (Loaded table)
+    ensures only { IfSome (F.held files.old) (λ held. (called : Result Relation Refused) → Calls words.now held called
+        → IsAnswerTo called result ⊎ IsSetback result) }
+    ensures complete { IfSome (F.held files.old) (λ held. (table : Relation) → Calls words.now held (Ok table)
         → ¬ (Rose (F.faults files.old) (F.faults files.new)) → ¬ (Rose (S.faults out.old) (S.faults out.new))
         → (result ≡ Status.Done) ⊎ (result ≡ Status.NoMemory)) }
     ensures usage { (result ≡ Status.Usage) ↔ IsNoRun words.now }
+    ensures at_fault { HasFault result }
 
     // A file that is absent or could not be read is the one that was begun last, and it was its turn.
     ensures reached { IfRole (λ role. Reaches words.now (F.held files.old) role (F.last files.new)) result }
@@ -57,9 +60,15 @@ pub fn monitor_main<R: Threads, F: Files, S: Sink, G: Gate>(
     ensures broken_stands { OnBroken (F.stand files.new ≡ stand.Broken) result }
     ensures unwritten { result ≡ Status.WriteFault → Rose (S.faults out.old) (S.faults out.new) }
 
-    // A refusal's line is all that it writes, unless a write failed.
-    ensures refused { IfSome (refusal_text result (F.last files.new)) (λ line. ¬ (Rose (S.faults out.old) (S.faults out.new))
-        → S.written out.new ≡ gained (S.written out.old) line) }
+    // A refusal's line is all that it writes, and the output is finished, unless writing failed. Where the files' bytes
+    // are told, it is the line of what they call for.
+    ensures refused { IsRefused result → ¬ (Rose (S.faults out.old) (S.faults out.new))
+        → (line : List ℕ) × IsLineOf result (F.last files.new) line × (S.written out.new ≡ gained (S.written out.old) line) }
+    ensures line { IfSome (F.held files.old) (λ held. (refusal : Refused) → Calls words.now held (Err refusal)
+        → ¬ (IsSetback result) → ¬ (Rose (S.faults out.old) (S.faults out.new))
+        → IfSome (line_of refusal) (λ line. S.written out.new ≡ gained (S.written out.old) line)) }
+    ensures refusal_finished { IsRefused result → ¬ (Rose (S.faults out.old) (S.faults out.new))
+        → IfSome (S.finished out.new) (λ finished. finished ≡ true) }
 
     ensures held { F.held files.new ≡ F.held files.old }
     ensures faults { F.faults files.old ≤ F.faults files.new }
@@ -106,25 +115,66 @@ fn write_table<S: Sink>(alloc: Global, table: Table, out: &mut S) -> Result<(), 
 /// Writes the line of a refusal. The status stands even where the line or the end of the output fails.
 fn refuse<S: Sink>(out: &mut S, refusal: &Refusal) -> Status
     ensures status { result ≡ status_of refusal.now }
-    ensures line { IfSome (refusal_line_of refusal.now) (λ line. ¬ (Rose (S.faults out.old) (S.faults out.new))
-        → S.written out.new ≡ gained (S.written out.old) line) }
+    ensures line { ¬ (Rose (S.faults out.old) (S.faults out.new)) → IfSome (line_of refusal.now)
+        (λ line. S.written out.new ≡ gained (S.written out.old) line) }
+    ensures finished { ¬ (Rose (S.faults out.old) (S.faults out.new)) → IfSome (line_of refusal.now)
+        (λ _. IfSome (S.finished out.new) (λ finished. finished ≡ true)) }
     ensures faults { S.faults out.old ≤ S.faults out.new }
 {
-    let status = refusal.status();
-    let written = match refusal {
-        Refusal::Usage => put_refusal(out, 1, Word::Usage, None, Values::Zero),
-        Refusal::NoFile { name, .. } => put_refusal(out, 6, Word::NoFile, Some(name), Values::Zero),
-        Refusal::ReadFault { name, .. } => put_refusal(
-            out,
-            7,
-            Word::Read,
-            Some(name),
-            Values::Zero,
-        ),
-        Refusal::NotBuilt => put_refusal(out, 11, Word::NotBuilt, None, Values::Zero),
-        Refusal::NoMemory => return status,
-    };
-    let _ = written;
+    let status = Status::of(refusal);
+    if let Refusal::NoMemory = refusal {
+        return status;
+    }
+    let _ = put_line(out, refusal);
     let _ = out.finish();
     status
+}
+
+fn put_line<S: Sink>(out: &mut S, refusal: &Refusal) -> Result<(), WriteFault>
+    ensures line { OnOk result (IfSome (line_of refusal.now) (λ line. S.written out.new ≡ gained (S.written out.old) line)) }
+    ensures failed { OnErr result (Rose (S.faults out.old) (S.faults out.new)) }
+    ensures faults { S.faults out.old ≤ S.faults out.new }
+{
+    match refusal {
+        Refusal::Usage => put_refusal(out, 1, Word::Usage, None, Values::Zero),
+        Refusal::NoFile { name, .. } => put_refusal(out, 6, Word::NoFile, Some(name), Values::Zero),
+        Refusal::ReadFault { name, .. } => {
+            put_refusal(out, 7, Word::Read, Some(name), Values::Zero)
+        }
+        Refusal::Schema(fault) => {
+            put_refusal(out, 2, fault.word, None, Values::One(u128::from(fault.at)))
+        }
+        Refusal::Query(fault) => {
+            put_refusal(out, 3, fault.word, None, Values::One(u128::from(fault.at)))
+        }
+        Refusal::Table { name, fault, .. } => put_data(out, name, *fault),
+        Refusal::NotBuilt => put_refusal(out, 11, Word::NotBuilt, None, Values::Zero),
+        Refusal::NoMemory => Ok(()),
+    }
+}
+
+/// Writes the line of a table's refused file. Want of memory has none.
+fn put_data<S: Sink>(out: &mut S, name: &Txt, fault: DataBad) -> Result<(), WriteFault>
+    ensures line { OnOk result (IfSome (data_line name.now fault) (λ line. S.written out.new ≡ gained (S.written out.old) line)) }
+    ensures failed { OnErr result (Rose (S.faults out.old) (S.faults out.new)) }
+    ensures faults { S.faults out.old ≤ S.faults out.new }
+{
+    let (word, values) = match fault {
+        DataBad::TooLong => (Word::TooLong, Values::Zero),
+        DataBad::NotText(len) => (Word::NotText, Values::One(u128::from(len))),
+        DataBad::NoHeader => (Word::NoHeader, Values::Zero),
+        DataBad::Header(column) => (Word::Header, Values::One(u128::from(column))),
+        DataBad::TooManyRows => (Word::TooManyRows, Values::Zero),
+        DataBad::Width(at) => (Word::Width, Values::One(u128::from(at))),
+        DataBad::Field(at, column) => {
+            (Word::Field, Values::Two(u128::from(at), u128::from(column)))
+        }
+        DataBad::DoubleKey(first, second) => (
+            Word::DoubleKey,
+            Values::Two(u128::from(first), u128::from(second)),
+        ),
+        DataBad::OutOfOrder(at) => (Word::OutOfOrder, Values::One(u128::from(at))),
+        DataBad::Memory => return Ok(()),
+    };
+    put_refusal(out, 5, word, Some(name), values)
 }

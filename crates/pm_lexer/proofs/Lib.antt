@@ -9,3 +9,5 @@ pub mod Readers
 pub mod Walk
 pub mod Repeats
 pub mod Turns
+pub mod Called
+pub mod Exclusive

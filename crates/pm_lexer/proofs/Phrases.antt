@@ -1,12 +1,10 @@
 -- What tokens are to a language: a phrase, the beginning of one, or where none goes on.
 use Rattle.std.proofs.Common.{◌≡◌, ◌≤◌, ℕ, List, [], ◌∷◌, ◌++◌, length, Ok, Err, refl, arith, length-append}
 use Rattle.pm_lexer.specs.declared.token.Token.{Token}
-use Rattle.pm_lexer.specs.Language.{Lang, Gate}
+use Rattle.pm_lexer.specs.Language.{Gate}
+pub use Rattle.pm_lexer.specs.Language.{Phrase}
 use Rattle.pm_lexer.specs.Reading.{Stop, expected, too_deep, too_many, Read, place_of}
-
--- A language within limits: at most so deep, and with an entry past its limit only where the gate is open.
-abbrev pub Phrase : Type 0 → Type 1
-Phrase A = ℕ → Gate → Lang A
+use Rattle.pm_lexer.specs.Answers.{BeginsLike}
 
 abbrev pub Next : Type 0 → Type 1
 Next A = A → List Token → Type 0
@@ -17,9 +15,7 @@ Avoids {A} S next = (a : A) (t : Token) (ts : List Token) → S t → next a (t 
 
 -- two lists of tokens that begin alike
 abbrev pub Heads : List Token → List Token → Type 0
-Heads [] w = w ≡ []
-Heads (t ∷ ts) [] = ⊥
-Heads (t ∷ ts) (u ∷ us) = u ≡ t
+Heads ts w = BeginsLike ts w
 
 pub heads_under : (front rest w : List Token) → Heads rest w → Heads (front ++ rest) (front ++ w)
 heads_under [] rest w h = h

@@ -21,6 +21,10 @@ never ts = ⊥
 abbrev pub always : Gate
 always ts = Unit {0}
 
+-- a language within limits: at most so deep, and with an entry past its limit only where the gate is open
+abbrev pub Phrase : Type 0 → Type 1
+Phrase A = ℕ → Gate → Lang A
+
 abbrev pub only_at : List Token → Gate
 only_at rest ts = ts ≡ rest
 

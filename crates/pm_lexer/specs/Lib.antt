@@ -5,3 +5,4 @@ pub mod Symbol
 pub mod Tokens
 pub mod Language
 pub mod Reading
+pub mod Answers

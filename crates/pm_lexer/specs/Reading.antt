@@ -45,3 +45,9 @@ more_at starts sep peek p limit (suc n) before ts =
 
 unfoldable pub list_at : {A : Type 0} → (Token → Bool) → (List Token → Read Token) → (List Token → Read A) → ℕ → List Token → Read (List A)
 list_at sep peek p limit ts = p ts >>= λ first. more_at sep (token_at sep) peek (λ _. p) limit (length first.1) (first.0 ∷ []) first.1
+
+-- nothing may follow
+abbrev pub whole : {A : Type 0} → Read A → Result A Stop
+whole (Ok (a, [])) = Ok a
+whole (Ok (a, t ∷ ts)) = Err (expected t.at)
+whole (Err e) = Err e

@@ -2,11 +2,10 @@
 use Rattle.std.specs.Prelude.{pos, false, [], ◌∷◌, None, codes}
 use Rattle.pm_values.specs.declared.value.Value.TheVariants.{Int}
 use Rattle.pm_values.specs.declared.value.Kind.TheVariants as kind
-use Rattle.pm_values.specs.declared.table.TableDecl.{TableDecl}
-use Rattle.pm_values.specs.Table.{Relation}
+use Rattle.pm_values.specs.Table.{Declaration, Relation}
 
 -- TABLE t FROM 't.csv' (a INT NOT NULL);
-abbrev pub numbers_decl : TableDecl
+abbrev pub numbers_decl : Declaration
 numbers_decl =
     record {
       name = codes "t";

@@ -95,12 +95,6 @@ schema_at ts =
     table_at ts >>= λ first. more_tables_at (length first.1) (first.0 ∷ []) first.1 >>= λ tables. token_at (is symbol.End) tables.1 >>= λ end.
     Ok (tables.0, end.1)
 
--- nothing may follow
-abbrev pub whole : {A : Type 0} → Read A → Result A Stop
-whole (Ok (a, [])) = Ok a
-whole (Ok (a, t ∷ ts)) = Err (expected t.at)
-whole (Err e) = Err e
-
 -- what a function answered is what reading gives, unless memory ran out
 abbrev pub Fails : {A : Type 0} → ReadBad → Result A Stop → Type 0
 Fails bad.Memory read = Unit {0}

@@ -1,5 +1,6 @@
 ghost use Rattle.std.specs.Prelude.{◌≡◌, map, IfOk};
-ghost use Rattle.pm_schema.specs.Meaning.{column_number, number_in, numbers, declared_column, declared_table, declared};
+ghost use Rattle.pm_values.specs.Table.{IsDeclaration};
+ghost use Rattle.pm_schema.specs.Meaning.{AreSound, column_number, number_in, numbers, declared_column, declared_table, declared};
 
 use crate::keyed::first;
 use crate::tree::{ColumnText, PlacedName, PlacedNames, TableText};
@@ -84,20 +85,21 @@ fn declared_columns(alloc: Global, columns: &[ColumnText]) -> Result<ColumnDecls
 }
 
 fn declared_table(alloc: Global, table: &TableText) -> Result<TableDecl, AllocError>
+    requires { IsDeclaration (declared_table table.now) }
     ensures { IfOk result (λ decl. decl ≡ declared_table table.now) }
 {
-    let columns = table.body.columns.as_slice();
-    Ok(TableDecl {
-        name: table.name.text.copy(alloc)?,
-        file: table.file.copy(alloc)?,
-        columns: declared_columns(alloc, columns)?,
-        key: numbers(alloc, columns, &table.body.key)?,
-        order: numbers(alloc, columns, &table.body.order)?,
-    })
+    let texts = table.body.columns.as_slice();
+    let name = table.name.text.copy(alloc)?;
+    let file = table.file.copy(alloc)?;
+    let columns = declared_columns(alloc, texts)?;
+    let key = numbers(alloc, texts, &table.body.key)?;
+    let order = numbers(alloc, texts, &table.body.order)?;
+    Ok(TableDecl::new(name, file, columns, key, order))
 }
 
 // What the texts of tables declare.
 pub(crate) fn declared(alloc: Global, tables: &[TableText]) -> Result<TableDecls, AllocError>
+    requires { AreSound tables.now }
     ensures { IfOk result (λ decls. decls ≡ declared tables.now) }
 {
     let mut decls = TableDecls::new(alloc);

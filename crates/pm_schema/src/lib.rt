@@ -15,7 +15,7 @@ pub mod terminals;
 pub mod tree;
 
 pub use fault::SchemaBad;
-pub use schema::{Schema, read_schema};
+pub use schema::{Schema, answers_once, read_schema};
 
 #[cfg(test)]
 mod tests;

@@ -1,11 +1,10 @@
-ghost use Rattle.std.specs.Prelude.{◌≡◌, ◌⊎◌, ℕ, List, None, Some, MatchResult, IfOk, IsErrOf};
+ghost use Rattle.std.specs.Prelude.{◌≡◌, ◌≤◌, ◌⊎◌, List, length, Result, All, IfOk, IsErrOf};
+ghost use Rattle.pm_lexer.specs.declared.token.Token.{Token};
+ghost use Rattle.pm_values.specs.Table.{Declaration};
+ghost use Rattle.pm_schema.specs.declared.fault.SchemaBad.{SchemaBad};
 ghost use Rattle.pm_schema.specs.declared.fault.SchemaBad.TheVariants as bad;
-ghost use Rattle.pm_schema.specs.declared.rules.Rule.TheVariants as rule;
-ghost use Rattle.pm_schema.specs.declared.rules.Breach.{Breach};
-ghost use Rattle.pm_schema.specs.declared.tree.TableText.{TableText};
-ghost use Rattle.pm_schema.specs.Answers.{Reads, ExpectedAt, TooManyAt};
 ghost use Rattle.pm_schema.specs.Rules.{first_breach};
-ghost use Rattle.pm_schema.specs.Meaning.{declared, Declares, Breaks, refusal, Judges};
+ghost use Rattle.pm_schema.specs.Meaning.{IsNarrow, CallsFor, refusal, Judges};
 
 use crate::declared::declared;
 use crate::fault::{ReadBad, SchemaBad};
@@ -32,7 +31,9 @@ fn refusal(breach: Breach) -> SchemaBad
 }
 
 // What the tables declare, where they keep the rules.
+#[tactic(auto, using(crate::proofs::Sound::sound_of))]
 fn judged(alloc: Global, tables: &[TableText]) -> Result<Schema, SchemaBad>
+    requires { All IsNarrow tables.now }
     ensures { Judges (first_breach tables.now) tables.now result }
 {
     match first_breach(tables) {
@@ -49,16 +50,9 @@ fn judged(alloc: Global, tables: &[TableText]) -> Result<Schema, SchemaBad>
 /// column's name that stands twice, a name in KEY or ORDER that is no column or stands there twice, a nullable
 /// column in KEY.
 pub fn read_schema(alloc: Global, tokens: &Tokens) -> Result<Schema, SchemaBad>
-    ensures ok { IfOk result (λ schema. Declares tokens.now schema) }
-    ensures only { (tables : List TableText) → Reads tokens.now tables → first_breach tables ≡ None → MatchResult result (λ schema. schema ≡ declared tables) (λ e. e ≡ bad.Memory) }
-    ensures broken { (tables : List TableText) (breach : Breach) → Reads tokens.now tables → first_breach tables ≡ Some breach → IsErrOf result (refusal breach) ⊎ IsErrOf result bad.Memory }
-    ensures one { (a b : List TableText) → Reads tokens.now a → Reads tokens.now b → a ≡ b }
-    ensures expected { (p : ℕ) → IsErrOf result (bad.Expected p) → ExpectedAt tokens.now p }
-    ensures too_many { (p : ℕ) → IsErrOf result (bad.TooMany p) → TooManyAt tokens.now p }
-    ensures double_table { (p : ℕ) → IsErrOf result (bad.DoubleTable p) → Breaks tokens.now rule.DoubleTable p }
-    ensures double_column { (p : ℕ) → IsErrOf result (bad.DoubleColumn p) → Breaks tokens.now rule.DoubleColumn p }
-    ensures key_column { (p : ℕ) → IsErrOf result (bad.KeyColumn p) → Breaks tokens.now rule.KeyColumn p }
-    ensures null_key { (p : ℕ) → IsErrOf result (bad.NullKey p) → Breaks tokens.now rule.NullKey p }
+    ensures few { IfOk result (λ schema. length schema ≤ 64) }
+    ensures answers { CallsFor tokens.now result ⊎ IsErrOf result bad.Memory }
+    ensures only { (answer : Result (List Declaration) SchemaBad) → CallsFor tokens.now answer → (result ≡ answer) ⊎ IsErrOf result bad.Memory }
 {
     match read_tables(alloc, tokens) {
         Ok(tables) => judged(alloc, tables.as_slice()),
@@ -66,4 +60,12 @@ pub fn read_schema(alloc: Global, tokens: &Tokens) -> Result<Schema, SchemaBad>
         Err(ReadBad::TooMany(at)) => Err(SchemaBad::TooMany(at)),
         Err(ReadBad::Memory) => Err(SchemaBad::Memory),
     }
+}
+
+/// Tokens call for one answer of `read_schema`: for a schema or for one refusal at one place.
+#[tactic(auto, using(crate::proofs::Called::some_answer, crate::proofs::Called::one_answer))]
+pub fn answers_once()
+    ensures some { (tokens : List Token) → (answer : Result (List Declaration) SchemaBad) × CallsFor tokens answer }
+    ensures one { (tokens : List Token) (a b : Result (List Declaration) SchemaBad) → CallsFor tokens a → CallsFor tokens b → a ≡ b }
+{
 }

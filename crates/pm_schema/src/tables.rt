@@ -1,9 +1,9 @@
 ghost use Rattle.std.specs.Prelude.{◌≡◌, length, nat_le};
-ghost use Rattle.pm_lexer.specs.Reading.{token_at, entry_at};
+ghost use Rattle.pm_lexer.specs.Reading.{token_at, entry_at, whole};
 ghost use Rattle.pm_schema.specs.declared.tree.Terminal.TheVariants as terminal;
 ghost use Rattle.pm_schema.specs.declared.tree.Word.TheVariants as word;
 ghost use Rattle.pm_schema.specs.Terminals.{stands};
-ghost use Rattle.pm_schema.specs.Reading.{Gives, table_at, more_tables_at, schema_at, whole};
+ghost use Rattle.pm_schema.specs.Reading.{Gives, table_at, more_tables_at, schema_at};
 
 use crate::columns::body;
 use crate::fault::ReadBad;

@@ -65,10 +65,10 @@ fn names_lose_their_quotes(rt: HostRuntime) -> Result<(), Fail> {
     let tokens = lex(alloc, &text)?;
     let schema = read_schema(alloc, &tokens)?;
     let table = schema.as_slice().first().ok_or("no table")?;
-    let second = table.columns.as_slice().get(1).ok_or("no column")?;
-    let order = table.order.as_ref().ok_or("no order")?;
-    assert_eq!(rt; table.name.as_str(), "a\"b");
-    assert_eq!(rt; table.file.as_str(), "it's.csv");
+    let second = table.columns().as_slice().get(1).ok_or("no column")?;
+    let order = table.order().ok_or("no order")?;
+    assert_eq!(rt; table.name().as_str(), "a\"b");
+    assert_eq!(rt; table.file().as_str(), "it's.csv");
     assert_eq!(rt; second.kind, Kind::Num(3));
     assert_eq!(rt; second.nullable, true);
     assert_eq!(rt; order.as_slice() == [1, 0].as_slice(), true);

@@ -205,12 +205,6 @@ select_at d ts =
     token_at (is symbol.End) semicolon.1 >>= λ end.
     Ok (record { distinct = is_some distinct.0; items = items.0; sources = sources.0; filter = filter.0; groups = groups.0; having = having.0; orders = orders.0 }, end.1)))
 
--- nothing may follow
-abbrev pub whole : {A : Type 0} → Read A → Result A Stop
-whole (Ok (a, [])) = Ok a
-whole (Ok (a, t ∷ ts)) = Err (expected t.at)
-whole (Err e) = Err e
-
 -- what a function answered is what reading gives, unless memory ran out
 abbrev pub Fails : {A : Type 0} → SynBad → Result A Stop → Type 0
 Fails bad.Memory read = Unit {0}

@@ -15,7 +15,7 @@ mod tests;
 pub mod tree;
 
 pub use fault::SynBad;
-pub use statement::parse;
+pub use statement::{answers_once, parse};
 pub use tree::{
     Atom, ColumnName, ColumnNames, Comparison, Expr, Func, Item, Items, Literal, Literals,
     OrderItem, OrderItems, PlacedName, Select, SelectItems, Source, Sources, Test, Tests,

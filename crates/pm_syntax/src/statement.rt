@@ -1,10 +1,13 @@
-ghost use Rattle.std.specs.Prelude.{◌≡◌, ℕ, length, IfOk, IsErrOf, MatchResult};
+ghost use Rattle.std.specs.Prelude.{◌≡◌, ◌⊎◌, List, Result, length, IsErrOf};
+ghost use Rattle.pm_lexer.specs.declared.token.Token.{Token};
 ghost use Rattle.pm_syntax.specs.declared.tree.Select.{Select};
-ghost use Rattle.pm_syntax.specs.Statement.{Reads, ExpectedAt, TooDeepAt, TooManyAt};
+ghost use Rattle.pm_syntax.specs.declared.fault.SynBad.{SynBad};
+ghost use Rattle.pm_syntax.specs.declared.fault.SynBad.TheVariants as bad;
+ghost use Rattle.pm_syntax.specs.Statement.{CallsFor};
 ghost use Rattle.pm_lexer.specs.declared.symbol.Symbol.TheVariants as symbol;
 ghost use Rattle.pm_lexer.specs.Symbol.{is};
-ghost use Rattle.pm_lexer.specs.Reading.{token_at, entry_at, more_at, sees};
-ghost use Rattle.pm_syntax.specs.Reading.{Gives, items_at, join_at, joins, on_at, source_at, sources_at, where_at, having_at, groups_at, orders_at, select_at, whole};
+ghost use Rattle.pm_lexer.specs.Reading.{token_at, entry_at, more_at, sees, whole};
+ghost use Rattle.pm_syntax.specs.Reading.{Gives, items_at, join_at, joins, on_at, source_at, sources_at, where_at, having_at, groups_at, orders_at, select_at};
 
 use crate::conditions::condition;
 use crate::entries::given;
@@ -226,15 +229,21 @@ fn whole(alloc: Global, tokens: &[Token]) -> Result<Select, SynBad>
 /// 32 parentheses and NOTs of a condition are open.
 ///
 /// `Expected` is the first token with which no statement begins, `TooDeep` the parenthesis or NOT that is the 33rd open
-/// one, and `TooMany` the first token of the entry past the limit of its list; the one with the least place, and at one
-/// place in this order. `Memory` is want of memory; it also stands for a number of more than 31 bytes, which no text
-/// has. The grammar is a part of SQL's. The time is linear in the tokens, and the depth of calls is bounded.
+/// one, and `TooMany` the first token of the entry past the limit of its list; each comes exactly where the tokens call
+/// for it, which is the one with the least place. `Memory` is want of memory; it also stands for a number of more than
+/// 31 bytes, which no text has. The grammar is a part of SQL's. The time is linear in the tokens, and the depth of calls
+/// is bounded.
 pub fn parse(alloc: Global, tokens: &Tokens) -> Result<Select, SynBad>
-    ensures reads { IfOk result (Reads tokens.now) }
-    ensures only { (select : Select) → Reads tokens.now select → MatchResult result (λ s. s ≡ select) (λ e. e ≡ SynBad.Memory) }
-    ensures expected { (p : ℕ) → IsErrOf result (SynBad.Expected p) → ExpectedAt tokens.now p }
-    ensures too_deep { (p : ℕ) → IsErrOf result (SynBad.TooDeep p) → TooDeepAt tokens.now p }
-    ensures too_many { (p : ℕ) → IsErrOf result (SynBad.TooMany p) → TooManyAt tokens.now p }
+    ensures answers { CallsFor tokens.now result ⊎ IsErrOf result bad.Memory }
+    ensures only { (answer : Result Select SynBad) → CallsFor tokens.now answer → (result ≡ answer) ⊎ IsErrOf result bad.Memory }
 {
     whole(alloc, tokens.as_slice())
+}
+
+/// Tokens call for one answer of `parse`: for a reading or for one refusal at one place.
+#[tactic(auto, using(crate::proofs::WholeReading::some_answer, crate::proofs::WholeReading::one_answer))]
+pub fn answers_once()
+    ensures some { (tokens : List Token) → (answer : Result Select SynBad) × CallsFor tokens answer }
+    ensures one { (tokens : List Token) (a b : Result Select SynBad) → CallsFor tokens a → CallsFor tokens b → a ≡ b }
+{
 }

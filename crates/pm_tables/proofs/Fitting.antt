@@ -1,5 +1,5 @@
 -- rows that records write fit the columns
-use Rattle.std.proofs.Common.{◌≡◌, ◌≤◌, ◌<◌, ◌+◌, ◌-◌, ℕ, ℤ, zero, suc, List, [], ◌∷◌, length, get_or, take, drop, refl, ap, arith, length-drop, slice_range}
+use Rattle.std.proofs.Common.{◌≡◌, ◌≤◌, ◌+◌, ◌-◌, ℕ, ℤ, zero, suc, List, [], ◌∷◌, length, drop, refl, ap, arith, length-drop, slice_range}
 use Rattle.std.proofs.lemmas.List.{length-take-le}
 use Rattle.std.specs.Prelude.{All}
 use Rattle.pm_values.specs.declared.value.Value.{Value}
@@ -8,7 +8,7 @@ use Rattle.pm_values.specs.declared.value.Kind.{Kind}
 use Rattle.pm_values.specs.declared.value.Kind.TheVariants as kind
 use Rattle.pm_values.specs.declared.table.ColumnDecl.{ColumnDecl}
 use Rattle.pm_values.specs.Table.{FitsColumn, FitsColumns, IsOfKind}
-use Rattle.pm_tables.specs.Field.{HasValue, IsEmptyValue, Writes}
+use Rattle.pm_tables.specs.Field.{HasValue, Writes}
 use Rattle.pm_tables.specs.Typing.{WritesRow, WritesRows}
 
 int_fits : (k : Kind) (field : List ℕ) (n : ℤ) → Writes k field (value.Int n) → IsOfKind k (value.Int n)

@@ -11,3 +11,6 @@ pub mod Chosen
 pub mod Walks
 pub mod Fits
 pub mod Fitting
+pub mod RowsOnce
+pub mod Once
+pub mod Loads

@@ -5,3 +5,5 @@ pub mod Reading
 pub mod HasRead
 pub mod Table
 pub mod Keys
+pub mod Loading
+pub mod Worked

@@ -2,7 +2,7 @@
 use Rattle.std.specs.Prelude.{◌≡◌, ◌≢◌, ◌+◌, ◌<◌, ℕ, suc, List, [], length, get_or, Some}
 use Rattle.std.specs.declared.cmp.Ordering.TheVariants as ordering
 use Rattle.pm_values.specs.declared.value.Value.{Value}
-use Rattle.pm_values.specs.declared.table.TableDecl.{TableDecl}
+use Rattle.pm_values.specs.Table.{Declaration}
 use Rattle.pm_values.specs.Order.{KeyHolds, chosen_at, values_cmp}
 use Rattle.pm_tables.specs.declared.fault.DataBad.{DataBad}
 use Rattle.pm_tables.specs.declared.fault.DataBad.TheVariants as bad
@@ -22,7 +22,7 @@ pub record FallsFirst (columns : List ℕ) (rows : List (List Value)) (i : ℕ) 
   pub first : (k : ℕ) → k < i → values_cmp (chosen_at columns rows k) (chosen_at columns rows (suc k)) ≢ ordering.Greater
 
 -- why the rows are no table: want of memory, the first repeated KEY, or where KEY holds the first fall of ORDER
-abbrev pub FaultsTable : TableDecl → List (List Value) → DataBad → Type 0
+abbrev pub FaultsTable : Declaration → List (List Value) → DataBad → Type 0
 FaultsTable decl rows (bad.DoubleKey a b) = (columns : List ℕ) × (decl.key ≡ Some columns)
     × (i : ℕ) × (j : ℕ) × (a ≡ i + 1) × (b ≡ j + 1) × RepeatsFirst columns rows i j
 FaultsTable decl rows (bad.OutOfOrder r) = KeyHolds decl.key rows × (columns : List ℕ) × (decl.order ≡ Some columns)

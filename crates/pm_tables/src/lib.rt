@@ -6,12 +6,17 @@
 mod fault;
 mod field;
 mod keys;
+mod loading;
 mod reading;
 mod record_list;
 mod table;
+#[cfg(test)]
+mod tests;
 mod typing;
 
 pub use fault::DataBad;
+pub use field::worked_fields;
+pub use loading::{calls_once, load};
 pub use reading::records;
 pub use record_list::Records;
 pub use table::finish;

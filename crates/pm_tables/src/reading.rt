@@ -18,7 +18,6 @@ use std::alloc::{AllocError, Global};
 /// not UTF-8 ([`DataBad::NotText`]), no record at all ([`DataBad::NoHeader`]), a first record that is not the list of
 /// the column names ([`DataBad::Header`]), and more than `most` records behind it ([`DataBad::TooManyRows`]).
 pub fn records(alloc: Global, decl: &TableDecl, bytes: &[u8], most: u32) -> Result<Records, DataBad>
-    requires narrow { length decl.now.columns ≤ 64 }
     ensures listed { IfOk result (IsList decl.now.columns bytes.now most) }
     ensures refused { IfErr result (FaultsFile decl.now.columns bytes.now most) }
 {
@@ -30,7 +29,7 @@ pub fn records(alloc: Global, decl: &TableDecl, bytes: &[u8], most: u32) -> Resu
     if !next(&mut reader, &mut record)? {
         return Err(DataBad::NoHeader);
     }
-    if let Some(place) = first_difference(&record, decl.columns.as_slice()) {
+    if let Some(place) = first_difference(&record, decl.columns().as_slice()) {
         return Err(DataBad::Header(place + 1));
     }
     gather(alloc, &mut reader, &mut record, most)
@@ -54,20 +53,20 @@ fn first_difference(header: &StringRecord, columns: &[ColumnDecl]) -> Option<u32
     }
 }
 
-fn has_field(record: &StringRecord, place: usize, text: &str) -> bool
-    ensures { IsTrue result ↔ (slice_get (fields_of record.now) place ≡ Some text.now) }
+fn has_field(header: &StringRecord, place: usize, text: &str) -> bool
+    ensures { IsTrue result ↔ (slice_get (fields_of header.now) place ≡ Some text.now) }
 {
-    match record.get(place) {
+    match header.get(place) {
         Some(field) => field == text,
         None => false,
     }
 }
 
-/// All further records, which are put into `record` one by one, or the refusal where these are more than `most`.
+/// All further records, which are put into `current` one by one, or the refusal where these are more than `most`.
 fn gather(
     alloc: Global,
     reader: &mut Reader<&[u8]>,
-    record: &mut StringRecord,
+    current: &mut StringRecord,
     most: u32,
 ) -> Result<Records, DataBad>
     ensures listed { (text : List ℕ) (header : List (List ℕ)) → HasRead text (header ∷ []) reader.old
@@ -77,23 +76,23 @@ fn gather(
     let mut fields = StringRecord::new(alloc);
     let mut ends = Vec::new(alloc);
     for _ in 0..most {
-        if !next(reader, record)? {
+        if !next(reader, current)? {
             return Ok(Records::new(fields, ends));
         }
-        push_fields(&mut fields, record)?;
+        push_fields(&mut fields, current)?;
         ends.push(fields.len())?;
     }
-    if next(reader, record)? {
+    if next(reader, current)? {
         return Err(DataBad::TooManyRows);
     }
     Ok(Records::new(fields, ends))
 }
 
-fn push_fields(fields: &mut StringRecord, record: &StringRecord) -> Result<(), AllocError>
-    ensures { OnOk result (fields_of fields.new ≡ fields_of fields.old ++ fields_of record.now) }
+fn push_fields(fields: &mut StringRecord, added: &StringRecord) -> Result<(), AllocError>
+    ensures { OnOk result (fields_of fields.new ≡ fields_of fields.old ++ fields_of added.now) }
 {
-    for place in 0..record.len() {
-        if let Some(field) = record.get(place) {
+    for place in 0..added.len() {
+        if let Some(field) = added.get(place) {
             fields.push_field(field)?;
         }
     }
@@ -110,10 +109,11 @@ fn open(alloc: Global, bytes: &[u8]) -> Reader<&[u8]>
         .from_reader(alloc, bytes)
 }
 
-/// Whether there is a next record, which is put into `record`.
-fn next(reader: &mut Reader<&[u8]>, record: &mut StringRecord) -> Result<bool, DataBad>
-    ensures found { (text : List ℕ) (rows : List (List (List ℕ))) → HasRead text rows reader.old → IfOk result (λ found. Continues text rows reader.new found (fields_of record.new)) }
+/// Whether there is a next record, which is put into `current`.
+fn next(reader: &mut Reader<&[u8]>, current: &mut StringRecord) -> Result<bool, DataBad>
+    ensures found { (text : List ℕ) (rows : List (List (List ℕ))) → HasRead text rows reader.old → IfOk result (λ found. Continues text rows reader.new found (fields_of current.new)) }
     ensures refused { IfErr result (λ e. e ≡ Memory) }
 {
-    reader.read_record(record).map_err(|_| DataBad::Memory)
+    // Records of text may have any lengths, so a read of bytes in memory fails only for want of memory.
+    reader.read_record(current).map_err(|_| DataBad::Memory)
 }

@@ -16,21 +16,17 @@ use std::collections::HashMap;
 /// Refused are a KEY that repeats ([`DataBad::DoubleKey`]), and else a row below the one before it by the ORDER
 /// columns ([`DataBad::OutOfOrder`]). The rows are dropped then.
 pub fn finish(alloc: Global, decl: TableDecl, rows: Rows) -> Result<Table, DataBad>
-    requires narrow { length decl.columns ≤ 64 }
-    requires scales { All HasScale decl.columns }
-    requires key { NamesColumns decl.key (length decl.columns) }
-    requires order { NamesColumns decl.order (length decl.columns) }
     requires few { length rows ≤ 2 ^ 24 }
     requires fit { All (FitsColumns decl.columns) rows }
     ensures table { IfOk result (λ table. table ≡ record { decl = decl; rows = rows }) }
     ensures refused { IfErr result (FaultsTable decl rows) }
 {
-    if let Some(columns) = &decl.key {
+    if let Some(columns) = decl.key() {
         if let Some((first, second)) = first_repeat(alloc, rows.as_slice(), columns.as_slice())? {
             return Err(DataBad::DoubleKey(first + 1, second + 1));
         }
     }
-    if let Some(columns) = &decl.order {
+    if let Some(columns) = decl.order() {
         if let Some(above) = first_fall(rows.as_slice(), columns.as_slice()) {
             return Err(DataBad::OutOfOrder(above + 2));
         }
@@ -60,8 +56,8 @@ fn first_repeat(alloc: Global, rows: &[Row], columns: &[u32]) -> Result<Option<(
         (λ pair. (pair.0 < 2 ^ 24) × (pair.1 < 2 ^ 24) × RepeatsFirst columns.now rows.now pair.0 pair.1)) }
     ensures refused { IfErr result (λ e. e ≡ DataBad.Memory) }
 {
-    let mut latest: HashMap<u64, u32> = HashMap::new(alloc);
-    let mut earlier: Vec<Option<u32>> = Vec::new(alloc);
+    let mut latest: HashMap<u64, u32> = HashMap::with_capacity(alloc, rows.len())?;
+    let mut earlier: Vec<Option<u32>> = Vec::with_capacity(alloc, rows.len())?;
     for at in 0..rows.len() {
         let start = latest.insert(key_hash(&rows[at], columns), at as u32)?;
         if let Some(first) = find_same(rows, columns, at as u32, start, earlier.as_slice()) {

@@ -19,8 +19,6 @@ pub fn type_rows(
     from: u32,
     to: u32,
 ) -> Result<Rows, DataBad>
-    requires narrow { length decl.now.columns ≤ 64 }
-    requires scales { All HasScale decl.now.columns }
     requires order { from ≤ to }
     requires within { to ≤ length list.now }
     ensures typed { IfOk result (WritesRows decl.now.columns (slice_range list.now from to)) }
@@ -28,9 +26,10 @@ pub fn type_rows(
     ensures count { IfOk result (λ rows. length rows + from ≡ to) }
     ensures refused { IfErr result (FaultsFirst decl.now.columns list.now from to) }
 {
+    let columns = decl.columns().as_slice();
     let mut rows = Rows::new(alloc);
     for at in from..to {
-        rows.push(type_row(alloc, decl.columns.as_slice(), list, at)?)?;
+        rows.push(type_row(alloc, columns, list, at)?)?;
     }
     Ok(rows)
 }

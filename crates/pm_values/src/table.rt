@@ -1,9 +1,10 @@
-ghost use Rattle.std.specs.Prelude.{◌≡◌};
-ghost use Rattle.pm_values.specs.Table.{IsRelation};
+ghost use Rattle.std.specs.Prelude.{◌≡◌, IfOk, MatchOption, None, Some};
+ghost use Rattle.pm_values.specs.Table.{IsDeclaration, IsRelation};
 
 use crate::items::{Columns, Items};
 use crate::text::Txt;
 use crate::value::{Kind, Rows};
+use std::alloc::{AllocError, Global};
 use std::marker::Model;
 
 /// A column as a schema declares it.
@@ -17,15 +18,133 @@ pub struct ColumnDecl {
 /// A list of columns.
 pub type ColumnDecls = Items<ColumnDecl>;
 
+impl ColumnDecl {
+    /// An equal column.
+    pub fn copy(&self, alloc: Global) -> Result<ColumnDecl, AllocError>
+        ensures { IfOk result (λ copy. copy ≡ self.now) }
+    {
+        Ok(ColumnDecl {
+            name: self.name.copy(alloc)?,
+            kind: self.kind,
+            nullable: self.nullable,
+        })
+    }
+}
+
 /// A table as a schema declares it: its name, the file that holds its rows, its columns, and the columns that are its
 /// KEY (no two rows agree in all of them) and its ORDER (the rows ascend by them), where it has these.
+///
+/// It has at most 64 columns, the scale of each fixed-point column is from 1 to 6, and KEY and ORDER name columns of
+/// its own, by their numbers from 0.
 #[derive(Debug, Drop)]
 pub struct TableDecl {
-    pub name: Txt,
-    pub file: Txt,
-    pub columns: ColumnDecls,
-    pub key: Option<Columns>,
-    pub order: Option<Columns>,
+    name: Txt,
+    file: Txt,
+    columns: ColumnDecls,
+    key: Option<Columns>,
+    order: Option<Columns>,
+}
+
+impl Model for TableDecl {
+    ghost use Rattle.pm_values.specs.Table.{Declaration, IsDeclaration};
+
+    ghost Value = { Declaration };
+
+    ghost view = { λ d. record { name = d.name; file = d.file; columns = d.columns; key = d.key; order = d.order } };
+
+    ghost invariant = { λ d. IsDeclaration (record { name = d.name; file = d.file; columns = d.columns; key = d.key; order = d.order }) };
+}
+
+impl TableDecl {
+    /// A declaration of columns that are as the type says.
+    pub fn new(
+        name: Txt,
+        file: Txt,
+        columns: ColumnDecls,
+        key: Option<Columns>,
+        order: Option<Columns>,
+    ) -> TableDecl
+        requires { IsDeclaration (record { name = name; file = file; columns = columns; key = key; order = order }) }
+        ensures { result ≡ record { name = name; file = file; columns = columns; key = key; order = order } }
+    {
+        TableDecl {
+            name,
+            file,
+            columns,
+            key,
+            order,
+        }
+    }
+
+    /// The table's name.
+    pub fn name(&self) -> &Txt
+        ensures { result.now ≡ self.now.name }
+    {
+        &self.name
+    }
+
+    /// The name of the file that holds the rows, as it is given.
+    pub fn file(&self) -> &Txt
+        ensures { result.now ≡ self.now.file }
+    {
+        &self.file
+    }
+
+    /// The columns, in the order of the file.
+    pub fn columns(&self) -> &ColumnDecls
+        ensures value { result.now ≡ self.now.columns }
+        ensures declared { IsDeclaration self.now }
+    {
+        &self.columns
+    }
+
+    /// The columns of KEY.
+    pub fn key(&self) -> Option<&Columns>
+        ensures value { MatchOption result (self.now.key ≡ None) (λ columns. self.now.key ≡ Some columns.now) }
+        ensures declared { IsDeclaration self.now }
+    {
+        self.key.as_ref()
+    }
+
+    /// The columns of ORDER.
+    pub fn order(&self) -> Option<&Columns>
+        ensures value { MatchOption result (self.now.order ≡ None) (λ columns. self.now.order ≡ Some columns.now) }
+        ensures declared { IsDeclaration self.now }
+    {
+        self.order.as_ref()
+    }
+
+    /// An equal declaration.
+    pub fn copy(&self, alloc: Global) -> Result<TableDecl, AllocError>
+        ensures { IfOk result (λ copy. copy ≡ self.now) }
+    {
+        Ok(TableDecl {
+            name: self.name.copy(alloc)?,
+            file: self.file.copy(alloc)?,
+            columns: copy_columns(alloc, &self.columns)?,
+            key: copy_numbers(alloc, &self.key)?,
+            order: copy_numbers(alloc, &self.order)?,
+        })
+    }
+}
+
+fn copy_columns(alloc: Global, columns: &ColumnDecls) -> Result<ColumnDecls, AllocError>
+    ensures { IfOk result (λ copy. copy ≡ columns.now) }
+{
+    let mut copy = ColumnDecls::new(alloc);
+    for column in columns.as_slice() {
+        copy.push(column.copy(alloc)?)?;
+    }
+    Ok(copy)
+}
+
+fn copy_numbers(alloc: Global, columns: &Option<Columns>) -> Result<Option<Columns>, AllocError>
+    ensures { IfOk result (λ copy. copy ≡ columns.now) }
+{
+    match columns {
+        Some(columns) => Ok(Some(Columns::from_slice(alloc, columns.as_slice())?)),
+        None => Ok(None),
+    }
 }
 
 /// A list of declarations.

@@ -20,13 +20,13 @@ fn make_decl(alloc: Global) -> Result<TableDecl, AllocError>
         kind: Kind::Int,
         nullable: false,
     })?;
-    Ok(TableDecl {
-        name: Txt::new(alloc, "t")?,
-        file: Txt::new(alloc, "t.csv")?,
+    Ok(TableDecl::new(
+        Txt::new(alloc, "t")?,
+        Txt::new(alloc, "t.csv")?,
         columns,
-        key: None,
-        order: None,
-    })
+        None,
+        None,
+    ))
 }
 
 /// The rows 7, 8 and 9.

@@ -29,7 +29,7 @@ pub loop-preserved : goal.loop-preserved
 loop-preserved c =
     let ends = c.loop.ends.items in
     let fields = fields_of c.loop.fields in
-    let taken = fields_of c.next.new.record in
+    let taken = fields_of c.next.new.current in
     let size = c.len.ensures ∙ ap length c.in_ok-push_fields.ensures in
     let items = rw size at c.in_ok-push.ensures.items in
     record {
@@ -45,7 +45,7 @@ loop-preserved c =
 pub returns-then-branch-clause-refused : goal.returns-then-branch-clause-refused
 returns-then-branch-clause-refused c = λ text header h.
     let list = cut 0 c.loop.ends.items (fields_of c.loop.fields) in
-    let taken = fields_of c.next-2.new.record in
+    let taken = fields_of c.next-2.new.current in
     let go : HasRead text (header ∷ (list ++ taken ∷ [])) c.next-2.new.reader
     = rw c.if-branch.true at (c.in_ok-next-2.ensures.found text (header ∷ list) (c.loop.invariant.read text header h)) in
     let all = all_start text (header ∷ (list ++ taken ∷ [])) c.next-2.new.reader.state go.rest go.reached in

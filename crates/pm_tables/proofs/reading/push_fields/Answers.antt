@@ -7,7 +7,7 @@ use Rattle.pm_tables.proofs.reading.push_fields.Goals.{in-Some+in_ok-push_field,
 
 pub loop-place-preserved : goal.loop-place-preserved
 loop-place-preserved c =
-    let fields = fields_of c.args.record.now in
+    let fields = fields_of c.args.added.now in
     let lt : c.loop-place.place < length fields = omega arith in
     let there = field_there fields c.loop-place.place lt in
     elim c.match-get.branch [

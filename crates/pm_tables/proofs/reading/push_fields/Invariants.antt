@@ -3,4 +3,4 @@ use Rattle.csv.specs.Records.{fields_of}
 use Rattle.pm_tables.proofs.reading.push_fields.Given as goal
 
 abbrev pub invariant-loop-place : goal.invariant-loop-place
-invariant-loop-place l = fields_of l.fields ≡ fields_of l.fn.fields ++ take l.place (fields_of l.record)
+invariant-loop-place l = fields_of l.fields ≡ fields_of l.fn.fields ++ take l.place (fields_of l.added)

@@ -1,0 +1,151 @@
+-- What the stages of loading answer, together.
+use Rattle.std.proofs.Common.{◌≡◌, ◌≤◌, ℕ, List, [], ◌∷◌, length, get_or, Option, Some, None, Result, Ok, Err, refl, subst, sym, inl, inr, arith, slice_get}
+use Rattle.std.specs.Prelude.{◌<◌, IfSome, IsSomeAnd}
+use Rattle.pm_io.specs.Files.{Held}
+use Rattle.pm_io.specs.Counts.{Rose}
+use Rattle.pm_io.specs.declared.stand.Stand.{Stand}
+use Rattle.pm_values.specs.Table.{Declaration}
+use Rattle.pm_inputs.specs.declared.refusal.Role.{Role}
+use Rattle.pm_inputs.specs.declared.refusal.Role.TheVariants as role
+use Rattle.pm_inputs.specs.declared.refusal.Refusal.{Refusal}
+use Rattle.pm_inputs.specs.declared.refusal.Refusal.TheVariants as refusal
+use Rattle.pm_inputs.specs.Texts.{Then}
+use Rattle.pm_inputs.specs.Calls.{FileRefuses, FileGives, IfRefused, IfAnswered, SchemaFile, QueryPlace}
+use Rattle.pm_inputs.specs.Stops.{OnNoFile, StopsAt, IsFileOf, IsOfReading, IsOfTable, IsRead, ReachesFile}
+
+pub list_three : {A : Type 0} (xs : List A) (a b c : A) → 3 ≤ length xs → length xs < 4 → a ≡ get_or xs 0 a → b ≡ get_or xs 1 b → c ≡ get_or xs 2 c → xs ≡ a ∷ b ∷ c ∷ []
+list_three [] a b c low high p q r = absurd (omega arith)
+list_three (x ∷ []) a b c low high p q r = absurd (omega arith)
+list_three (x ∷ y ∷ []) a b c low high p q r = absurd (omega arith)
+list_three (x ∷ y ∷ z ∷ []) a b c low high p q r = cc
+list_three (x ∷ y ∷ z ∷ w ∷ xs) a b c low high p q r = absurd (omega arith)
+
+-- ---- answers of one step, and of several
+
+pub refused_so : (P Q : Refusal → Type 0) → ((r : Refusal) → P r → Q r) → (r : Refusal) → IfRefused P r → IfRefused Q r
+refused_so P Q carry refusal.Usage h = carry refusal.Usage h
+refused_so P Q carry (refusal.NoFile role name) h = carry (refusal.NoFile role name) h
+refused_so P Q carry (refusal.ReadFault role name) h = tt
+refused_so P Q carry (refusal.Schema fault) h = carry (refusal.Schema fault) h
+refused_so P Q carry (refusal.Query fault) h = carry (refusal.Query fault) h
+refused_so P Q carry (refusal.Table table name fault) h = carry (refusal.Table table name fault) h
+refused_so P Q carry refusal.NotBuilt h = carry refusal.NotBuilt h
+refused_so P Q carry refusal.NoMemory h = tt
+
+pub answered_so : {A : Type 0} (P Q : Result A Refusal → Type 0) → ((out : Result A Refusal) → P out → Q out) → (out : Result A Refusal) → IfAnswered P out → IfAnswered Q out
+answered_so P Q carry (Ok a) h = carry (Ok a) h
+answered_so P Q carry (Err r) h = refused_so (λ r. P (Err r)) (λ r. Q (Err r)) (λ r. carry (Err r)) r h
+
+-- the first step refuses
+pub told_first : {A B : Type 0} (told : Option Held) (P : Held → Result A Refusal → Type 0) (Q : Held → A → Result B Refusal → Type 0) (r : Refusal)
+    → IfSome told (λ held. IfAnswered (P held) (Err r)) → IfSome told (λ held. IfAnswered (Then (P held) (Q held)) (Err r))
+told_first None P Q r h = tt
+told_first (Some held) P Q r h = refused_so (λ r. P held (Err r)) (λ r. Then (P held) (Q held) (Err r)) (λ r p. (Err r, p, refl)) r h
+
+-- the first step goes on to the next
+pub told_next : {A B : Type 0} (told : Option Held) (P : Held → Result A Refusal → Type 0) (Q : Held → A → Result B Refusal → Type 0) (a : A) (out : Result B Refusal)
+    → IfSome told (λ held. P held (Ok a)) → IfSome told (λ held. IfAnswered (Q held a) out) → IfSome told (λ held. IfAnswered (Then (P held) (Q held)) out)
+told_next None P Q a out p h = tt
+told_next (Some held) P Q a out p h = answered_so (Q held a) (Then (P held) (Q held)) (λ out q. (Ok a, p, q)) out h
+
+-- ---- one file
+
+gone_gives : {A : Type 0} (file : Option (List ℕ)) (role : Role) (name : List ℕ) (limit : ℕ) (long : Refusal) (next : List ℕ → Result A Refusal → Type 0)
+    → file ≡ None → FileGives file role name limit long next (Err (refusal.NoFile role name))
+gone_gives None role name limit long next e = inl (refusal.NoFile role name, refl, refl)
+gone_gives (Some bytes) role name limit long next e = absurd cc
+
+long_gives : {A : Type 0} (file : Option (List ℕ)) (role : Role) (name : List ℕ) (limit : ℕ) (long : Refusal) (next : List ℕ → Result A Refusal → Type 0)
+    → IsRead file limit None → FileGives file role name limit long next (Err long)
+long_gives None role name limit long next h = absurd h
+long_gives (Some bytes) role name limit long next h = inl (long, (h, refl), refl)
+
+read_gives : {A : Type 0} (file : Option (List ℕ)) (role : Role) (name : List ℕ) (limit : ℕ) (long : Refusal) (next : List ℕ → Result A Refusal → Type 0) (bytes : List ℕ) (out : Result A Refusal)
+    → IsRead file limit (Some bytes) → next bytes out → FileGives file role name limit long next out
+read_gives file role name limit long next bytes out h n = rw h.0 (inr (h.1, n))
+
+-- the file was not read
+pub told_unread : {A : Type 0} (told : Option Held) (role : Role) (name : List ℕ) (limit : ℕ) (long : Refusal) (next : List ℕ → Result A Refusal → Type 0) (last : List ℕ) (now : Stand) (gone broke : Type 0) (r : Refusal)
+    → IsOfReading r → StopsAt (IsFileOf role name) last now gone broke r → OnNoFile (IfSome told (λ held. held name ≡ None)) r
+    → IfSome told (λ held. IfAnswered (FileGives (held name) role name limit long next) (Err r))
+told_unread None role name limit long next last now gone broke r own stop none = tt
+told_unread (Some held) role name limit long next last now gone broke refusal.Usage own stop none = absurd own
+told_unread (Some held) role name limit long next last now gone broke (refusal.NoFile r n) own stop none = rw (stop.0.0, stop.0.1) (gone_gives (held name) role name limit long next none)
+told_unread (Some held) role name limit long next last now gone broke (refusal.ReadFault r n) own stop none = tt
+told_unread (Some held) role name limit long next last now gone broke (refusal.Schema fault) own stop none = absurd own
+told_unread (Some held) role name limit long next last now gone broke (refusal.Query fault) own stop none = absurd own
+told_unread (Some held) role name limit long next last now gone broke (refusal.Table t n fault) own stop none = absurd own
+told_unread (Some held) role name limit long next last now gone broke refusal.NotBuilt own stop none = absurd own
+told_unread (Some held) role name limit long next last now gone broke refusal.NoMemory own stop none = tt
+
+-- it is longer than its limit
+pub told_long : {A : Type 0} (told : Option Held) (role : Role) (name : List ℕ) (limit : ℕ) (long : Refusal) (next : List ℕ → Result A Refusal → Type 0)
+    → IfSome told (λ held. IsRead (held name) limit None) → IfSome told (λ held. FileGives (held name) role name limit long next (Err long))
+told_long None role name limit long next h = tt
+told_long (Some held) role name limit long next h = long_gives (held name) role name limit long next h
+
+-- it was read
+pub told_read : {A : Type 0} (told : Option Held) (role : Role) (name : List ℕ) (limit : ℕ) (long : Refusal) (next : List ℕ → Result A Refusal → Type 0) (bytes : List ℕ) (out : Result A Refusal)
+    → IfSome told (λ held. IsRead (held name) limit (Some bytes)) → next bytes out → IfSome told (λ held. FileGives (held name) role name limit long next out)
+told_read None role name limit long next bytes out h n = tt
+told_read (Some held) role name limit long next bytes out h n = read_gives (held name) role name limit long next bytes out h n
+
+-- it is longer than its limit, which is refused so unless memory ran out
+pub told_long_so : {A : Type 0} (told : Option Held) (role : Role) (name : List ℕ) (limit : ℕ) (long r : Refusal) (next : List ℕ → Result A Refusal → Type 0)
+    → IfSome told (λ held. IsRead (held name) limit None) → IfRefused (λ r. r ≡ long) r → IfSome told (λ held. IfAnswered (FileGives (held name) role name limit long next) (Err r))
+told_long_so None role name limit long r next h so = tt
+told_long_so (Some held) role name limit long r next h so =
+    refused_so (λ r. r ≡ long) (λ r. FileGives (held name) role name limit long next (Err r)) (λ r e. rw e (long_gives (held name) role name limit long next h)) r so
+
+-- it was read, and its bytes are answered
+pub told_read_so : {A : Type 0} (told : Option Held) (role : Role) (name : List ℕ) (limit : ℕ) (long : Refusal) (next : List ℕ → Result A Refusal → Type 0) (bytes : List ℕ) (out : Result A Refusal)
+    → IfSome told (λ held. IsRead (held name) limit (Some bytes)) → IfAnswered (next bytes) out → IfSome told (λ held. IfAnswered (FileGives (held name) role name limit long next) out)
+told_read_so None role name limit long next bytes out h n = tt
+told_read_so (Some held) role name limit long next bytes out h n =
+    answered_so (next bytes) (FileGives (held name) role name limit long next) (λ out n. read_gives (held name) role name limit long next bytes out h n) out n
+
+-- ---- where loading stopped
+
+-- a table's own refusal is no stop at a file
+pub table_stops : (IsIts : Role → List ℕ → Type 0) (last : List ℕ) (now : Stand) (gone broke : Type 0) (r : Refusal) → IsOfTable r → StopsAt IsIts last now gone broke r
+table_stops IsIts last now gone broke refusal.Usage h = absurd h
+table_stops IsIts last now gone broke (refusal.NoFile role name) h = absurd h
+table_stops IsIts last now gone broke (refusal.ReadFault role name) h = absurd h
+table_stops IsIts last now gone broke (refusal.Schema fault) h = tt
+table_stops IsIts last now gone broke (refusal.Query fault) h = tt
+table_stops IsIts last now gone broke (refusal.Table table name fault) h = h
+table_stops IsIts last now gone broke refusal.NotBuilt h = tt
+table_stops IsIts last now gone broke refusal.NoMemory h = tt
+
+rose_before : (start old new : ℕ) → start ≤ old → Rose old new → Rose start new
+rose_before start old new le rose = omega arith
+
+-- a stop at one file is one of the whole order
+pub stop_moved : (IsIts IsOurs : Role → List ℕ → Type 0) (last : List ℕ) (now : Stand) (a0 a1 a2 f0 f1 f2 : ℕ) → a0 ≤ a1 → f0 ≤ f1 → ((r : Role) (n : List ℕ) → IsIts r n → IsOurs r n)
+    → (refusal : Refusal) → StopsAt IsIts last now (Rose a1 a2) (Rose f1 f2) refusal → StopsAt IsOurs last now (Rose a0 a2) (Rose f0 f2) refusal
+stop_moved IsIts IsOurs last now a0 a1 a2 f0 f1 f2 a f its refusal.Usage h = h
+stop_moved IsIts IsOurs last now a0 a1 a2 f0 f1 f2 a f its (refusal.NoFile r n) h = (its r n h.0, h.1, h.2, rose_before a0 a1 a2 a h.3)
+stop_moved IsIts IsOurs last now a0 a1 a2 f0 f1 f2 a f its (refusal.ReadFault r n) h = (its r n h.0, h.1, h.2, rose_before f0 f1 f2 f h.3)
+stop_moved IsIts IsOurs last now a0 a1 a2 f0 f1 f2 a f its (refusal.Schema fault) h = tt
+stop_moved IsIts IsOurs last now a0 a1 a2 f0 f1 f2 a f its (refusal.Query fault) h = tt
+stop_moved IsIts IsOurs last now a0 a1 a2 f0 f1 f2 a f its (refusal.Table t n fault) h = h
+stop_moved IsIts IsOurs last now a0 a1 a2 f0 f1 f2 a f its refusal.NotBuilt h = tt
+stop_moved IsIts IsOurs last now a0 a1 a2 f0 f1 f2 a f its refusal.NoMemory h = tt
+
+pub reaches_schema : (schema query : List ℕ) (told : Option Held) (r : Role) (n : List ℕ) → IsFileOf role.Schema schema r n → ReachesFile schema query told r n
+reaches_schema schema query told r n h = rw (h.0, h.1) refl
+
+declared_held : (told : Option Held) (schema : List ℕ) (decls : List Declaration) → IfSome told (λ held. SchemaFile held schema (Ok decls))
+    → IfSome told (λ held. (decls : List Declaration) × SchemaFile held schema (Ok decls))
+declared_held None schema decls h = tt
+declared_held (Some held) schema decls h = (decls, h)
+
+pub reaches_query : (schema query : List ℕ) (told : Option Held) (decls : List Declaration) → IfSome told (λ held. SchemaFile held schema (Ok decls))
+    → (r : Role) (n : List ℕ) → IsFileOf role.Query query r n → ReachesFile schema query told r n
+reaches_query schema query told decls s r n h = rw (h.0, h.1) (refl, declared_held told schema decls s)
+
+pub reaches_table : (schema query : List ℕ) (told : Option Held) (decls : List Declaration) (place : ℕ) (decl : Declaration)
+    → IfSome told (λ held. SchemaFile held schema (Ok decls)) → IfSome told (λ held. QueryPlace held query decls (Ok place)) → slice_get decls place ≡ Some decl
+    → (r : Role) (n : List ℕ) → IsFileOf (role.Table place) decl.file r n → ReachesFile schema query told r n
+reaches_table schema query None decls place decl s q e r n h = rw h.0 tt
+reaches_table schema query (Some held) decls place decl s q e r n h = rw (h.0, h.1) (decls, (decl, (s, (q, (e, refl)))))

@@ -1,0 +1,4 @@
+pub mod Texts
+pub mod Chosen
+pub mod Calls
+pub mod Stops

@@ -1,0 +1,59 @@
+//! Why a command stops before it has its table.
+
+ghost use Rattle.std.specs.Prelude.{◌≡◌};
+ghost use Rattle.pm_inputs.specs.declared.refusal.Refusal.TheVariants as refusal;
+
+use crate::texts::Fault;
+use pm_tables::DataBad;
+use pm_values::Txt;
+use std::alloc::AllocError;
+use thiserror::Error;
+
+/// What a file is for. Tables are counted by their place in the schema, from 0.
+#[derive(Clone, Copy, Debug, PartialEq, Eq)]
+pub enum Role {
+    Schema,
+    Query,
+    Table(u32),
+}
+
+/// Why a table was not loaded. A file's name is the one that was begun.
+#[derive(Debug, Drop, Error)]
+pub enum Refusal {
+    /// The words are not `run` and two names.
+    #[error("usage: run SCHEMA QUERY")]
+    Usage,
+    /// There is no file of this name.
+    #[error("there is no file {}", .name.as_str())]
+    NoFile { role: Role, name: Txt },
+    /// The file of this name could not be read to its end.
+    #[error("the file {} could not be read", .name.as_str())]
+    ReadFault { role: Role, name: Txt },
+    /// The schema's file is no schema.
+    #[error("the schema is refused")]
+    Schema(Fault),
+    /// The query's file is no SELECT statement.
+    #[error("the query is refused")]
+    Query(Fault),
+    /// The file of this table, counted by its place in the schema from 0, is no table of its declaration.
+    #[error("the file of the table {} is refused", .name.as_str())]
+    Table {
+        table: u32,
+        name: Txt,
+        fault: DataBad,
+    },
+    /// The query is not one that is run so far.
+    #[error("the query is not run so far")]
+    NotBuilt,
+    /// There was no memory.
+    #[error("out of memory")]
+    NoMemory,
+}
+
+impl From<AllocError> for Refusal {
+    ghost from_gives = { λ _ out. out ≡ refusal.NoMemory };
+
+    fn from(_error: AllocError) -> Self {
+        Refusal::NoMemory
+    }
+}

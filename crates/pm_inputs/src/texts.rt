@@ -1,0 +1,111 @@
+//! The bytes of a schema's and of a query's file to what they say.
+
+ghost use Rattle.std.specs.Prelude.{◌≡◌};
+ghost use Rattle.pm_inputs.specs.declared.texts.TextBad.TheVariants as bad;
+ghost use Rattle.pm_inputs.specs.Texts.{Gives, IsBad, TextGives, SchemaText, SelectText, lexing_fault, syntax_fault, schema_fault};
+
+use pm_lexer::{LexBad, Tokens, lex};
+use pm_lines::Word;
+use pm_schema::{Schema, SchemaBad, read_schema};
+use pm_syntax::{Select, SynBad, parse};
+use pm_values::Txt;
+use std::alloc::{AllocError, Global};
+
+/// What is wrong with a text, and at which byte of it, from 0. A text that is too long has its limit in bytes there.
+#[derive(Clone, Copy, Debug, PartialEq, Eq)]
+pub struct Fault {
+    pub word: Word,
+    pub at: u64,
+}
+
+/// Why a text says nothing.
+#[derive(Clone, Copy, Debug, PartialEq, Eq)]
+pub(crate) enum TextBad {
+    /// The text is at fault.
+    Fault(Fault),
+    /// There was no memory.
+    Memory,
+}
+
+fn faulty(word: Word, at: u64) -> TextBad
+    ensures { result ≡ TextBad.Fault (record { word = word; at = at }) }
+{
+    TextBad::Fault(Fault { word, at })
+}
+
+impl From<AllocError> for TextBad {
+    ghost from_gives = { λ _ out. out ≡ bad.Memory };
+
+    fn from(_error: AllocError) -> Self {
+        TextBad::Memory
+    }
+}
+
+impl From<LexBad> for TextBad {
+    ghost from_gives = { λ e out. IsBad (lexing_fault e) out };
+
+    fn from(error: LexBad) -> Self {
+        match error {
+            LexBad::BadChar(at) => faulty(Word::BadChar, at),
+            LexBad::OpenText(at) => faulty(Word::OpenText, at),
+            LexBad::LongNumber(at) => faulty(Word::LongNumber, at),
+            LexBad::LongName(at) => faulty(Word::LongName, at),
+            LexBad::Memory => TextBad::Memory,
+        }
+    }
+}
+
+impl From<SynBad> for TextBad {
+    ghost from_gives = { λ e out. IsBad (syntax_fault e) out };
+
+    fn from(error: SynBad) -> Self {
+        match error {
+            SynBad::Expected(at) => faulty(Word::Expected, at),
+            SynBad::TooDeep(at) => faulty(Word::TooDeep, at),
+            SynBad::TooMany(at) => faulty(Word::TooMany, at),
+            SynBad::Memory => TextBad::Memory,
+        }
+    }
+}
+
+impl From<SchemaBad> for TextBad {
+    ghost from_gives = { λ e out. IsBad (schema_fault e) out };
+
+    fn from(error: SchemaBad) -> Self {
+        match error {
+            SchemaBad::Expected(at) => faulty(Word::Expected, at),
+            SchemaBad::TooMany(at) => faulty(Word::TooMany, at),
+            SchemaBad::DoubleTable(at) => faulty(Word::DoubleTable, at),
+            SchemaBad::DoubleColumn(at) => faulty(Word::DoubleColumn, at),
+            SchemaBad::KeyColumn(at) => faulty(Word::KeyColumn, at),
+            SchemaBad::NullKey(at) => faulty(Word::NullKey, at),
+            SchemaBad::Memory => TextBad::Memory,
+        }
+    }
+}
+
+/// The tokens of a text of these bytes.
+fn tokens_of(alloc: Global, bytes: &[u8]) -> Result<Tokens, TextBad>
+    ensures { Gives (TextGives bytes.now) result }
+{
+    match str::from_utf8(bytes) {
+        Ok(text) => Ok(lex(alloc, &Txt::new(alloc, text)?)?),
+        Err(error) => Err(faulty(Word::NotText, error.valid_up_to() as u64)),
+    }
+}
+
+/// The schema that a text of these bytes declares.
+pub(crate) fn schema_of(alloc: Global, bytes: &[u8]) -> Result<Schema, TextBad>
+    ensures { Gives (SchemaText bytes.now) result }
+{
+    let tokens = tokens_of(alloc, bytes)?;
+    Ok(read_schema(alloc, &tokens)?)
+}
+
+/// The statement that a text of these bytes is.
+pub(crate) fn select_of(alloc: Global, bytes: &[u8]) -> Result<Select, TextBad>
+    ensures { Gives (SelectText bytes.now) result }
+{
+    let tokens = tokens_of(alloc, bytes)?;
+    Ok(parse(alloc, &tokens)?)
+}

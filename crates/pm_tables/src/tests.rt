@@ -1,0 +1,146 @@
+ghost use Rattle.std.specs.Prelude.{◌≡◌, All, IfOk, length};
+ghost use Rattle.pm_values.specs.Order.{NamesColumns};
+ghost use Rattle.pm_values.specs.Table.{HasScale, IsScale};
+
+use crate::loading::load;
+use pm_values::{ColumnDecl, ColumnDecls, Columns, Kind, Table, TableDecl, Txt, Value};
+use std::alloc::{AllocError, Global};
+use std::test::Fail;
+
+fn column(alloc: Global, name: &str, kind: Kind, nullable: bool) -> Result<ColumnDecl, AllocError>
+    ensures { IfOk result (λ column. column.kind ≡ kind) }
+{
+    Ok(ColumnDecl {
+        name: Txt::new(alloc, name)?,
+        kind,
+        nullable,
+    })
+}
+
+fn columns(alloc: Global, first: Kind, second: Kind) -> Result<ColumnDecls, AllocError>
+    requires first { IsScale first }
+    requires second { IsScale second }
+    ensures count { IfOk result (λ columns. length columns ≡ 2) }
+    ensures scales { IfOk result (All HasScale) }
+{
+    let mut columns = ColumnDecls::new(alloc);
+    columns.push(column(alloc, "p", first, second == Kind::Int)?)?;
+    columns.push(column(alloc, "q", second, second != Kind::Int)?)?;
+    Ok(columns)
+}
+
+fn first_column(alloc: Global, wanted: bool) -> Result<Option<Columns>, AllocError>
+    ensures { IfOk result (λ numbers. NamesColumns numbers 2) }
+{
+    if wanted {
+        Ok(Some(Columns::from_slice(alloc, &[0])?))
+    } else {
+        Ok(None)
+    }
+}
+
+// A table of two columns p and q. Where q is INT it is NOT NULL, and p may be NULL; else it is the other way round.
+fn declared(
+    alloc: Global,
+    first: Kind,
+    second: Kind,
+    key: bool,
+    order: bool,
+) -> Result<TableDecl, AllocError>
+    requires first { IsScale first }
+    requires second { IsScale second }
+{
+    let name = Txt::new(alloc, "t")?;
+    let file = Txt::new(alloc, "t.csv")?;
+    let columns = columns(alloc, first, second)?;
+    let key = first_column(alloc, key)?;
+    let order = first_column(alloc, order)?;
+    Ok(TableDecl::new(name, file, columns, key, order))
+}
+
+// The values of a table: numbers, texts in quotes, and a line behind each row.
+fn written(alloc: Global, table: &Table) -> Result<String, AllocError> {
+    let mut text = String::new(alloc);
+    for row in table.rows().as_slice() {
+        for value in row.as_slice() {
+            let piece = match value {
+                Value::Null => format!(in alloc; "null ")?,
+                Value::Int(n) => format!(in alloc; "{n} ")?,
+                Value::Text(t) => format!(in alloc; "'{}' ", t.as_str())?,
+            };
+            text.push_str(piece.as_str())?;
+        }
+        text.push_str("/")?;
+    }
+    Ok(text)
+}
+
+// What a file of at most five records gives.
+fn answer(alloc: Global, decl: TableDecl, bytes: &[u8]) -> Result<String, AllocError> {
+    match load(alloc, decl, bytes, 5) {
+        Ok(table) => written(alloc, &table),
+        Err(e) => format!(in alloc; "{e:?}"),
+    }
+}
+
+#[test]
+fn files_of_numbers(rt: HostRuntime) -> Result<(), Fail> {
+    let alloc = rt.alloc();
+    let cases = [
+        ("", "NoHeader"),
+        ("p\n", "Header(2)"),
+        ("p,r\n", "Header(2)"),
+        ("p,q,x\n", "Header(3)"),
+        ("p,q\n1,2\n1,2\n1,2\n1,2\n1,2\nx\n", "TooManyRows"),
+        ("p,q\n1\n", "Width(1)"),
+        ("p,q\n1,2\n1,2,3\n", "Width(2)"),
+        ("p,q\n12.505,1\n", "Field(1, 1)"),
+        ("p,q\n1,9223372036854775808\n", "Field(1, 2)"),
+        ("p,q\n1,\n", "Field(1, 2)"),
+        ("p,q\n1,2\n1.,2\n", "Field(2, 1)"),
+        ("p,q\n92233720368547758.08,2\n", "Field(1, 1)"),
+        ("p,q\n-0.050,+7\n", "-5 7 /"),
+        (
+            "p,q\n-92233720368547758.08,-9223372036854775808\n",
+            "-9223372036854775808 -9223372036854775808 /",
+        ),
+        ("\u{feff}p,q\n,1\n2.5,-0", "null 1 /250 0 /"),
+        ("\u{feff}\u{feff}p,q\n", "Header(1)"),
+    ];
+    for (text, want) in cases {
+        let decl = declared(alloc, Kind::Num(2), Kind::Int, false, false)?;
+        assert_eq!(rt;
+            answer(alloc, decl, text.as_bytes())?.as_str(),
+            want,
+            "{text}"
+        );
+    }
+    Ok(())
+}
+
+#[test]
+fn files_with_a_key(rt: HostRuntime) -> Result<(), Fail> {
+    let alloc = rt.alloc();
+    let cases = [
+        ("p,q\n1,A\n2,B\n3,C\n4,D\n2,E\n", "DoubleKey(2, 5)"),
+        ("p,q\n-0,A\n0,B\n", "DoubleKey(1, 2)"),
+        ("p,q\n1,A\n1,B\nz,C\n", "Field(3, 1)"),
+        ("p,q\n3,A\n1,B\n3,C\n", "DoubleKey(1, 3)"),
+        ("p,q\n1,A\n3,B\n2,C\n", "OutOfOrder(3)"),
+        (
+            "p,q\r\n1,\"x,\"\"y\r\nz\"\r\n2,\"\"\r\n",
+            "1 'x,\"y\r\nz' /2 null /",
+        ),
+    ];
+    for (text, want) in cases {
+        let decl = declared(alloc, Kind::Int, Kind::Text, true, true)?;
+        assert_eq!(rt;
+            answer(alloc, decl, text.as_bytes())?.as_str(),
+            want,
+            "{text}"
+        );
+    }
+    let decl = declared(alloc, Kind::Int, Kind::Text, false, false)?;
+    assert_eq!(rt; answer(alloc, decl, b"p,q\n\xff")?.as_str(), "NotText(4)");
+    Ok(())
+}
