@@ -2,4 +2,3 @@ pub mod Grammar
 pub mod Terminals
 pub mod Reading
 pub mod Statement
-pub mod Canon

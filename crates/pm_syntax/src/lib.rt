@@ -1,4 +1,5 @@
-//! and else gives the refusal with the least place; `print` gives the canonical text. The grammar is in specs/.
+//! Reads a SELECT statement from its tokens: `parse` gives the tree exactly where the tokens are a statement within the
+//! limits, and else the refusal with the least place. The grammar is in specs/.
 #![tactic(auto)]
 
 pub mod conditions;
@@ -7,17 +8,13 @@ pub mod expressions;
 pub mod fault;
 pub mod lists;
 pub mod numbers;
-pub mod numerals;
-pub mod printing;
 pub mod statement;
 pub mod terminals;
 #[cfg(test)]
 mod tests;
 pub mod tree;
-pub mod words;
 
 pub use fault::SynBad;
-pub use printing::print;
 pub use statement::{answers_once, parse};
 pub use tree::{
     Atom, ColumnName, ColumnNames, Comparison, Expr, Func, Item, Items, Literal, Literals,

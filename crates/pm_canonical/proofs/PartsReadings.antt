@@ -1,0 +1,197 @@
+-- The parts of a statement are read back.
+use Rattle.std.proofs.Common.{◌≡◌, ◌⊎◌, Bool, true, false, List, [], ◌∷◌, ◌++◌, length, map, Option, Some, None, if◌then◌else◌, refl, sym, ◌∙◌, ap, arith}
+use Rattle.std.specs.List.{flat_map}
+use Rattle.std.proofs.lemmas.List.{append-nil}
+use Rattle.pm_lexer.specs.declared.symbol.Symbol.{Symbol}
+use Rattle.pm_lexer.specs.declared.symbol.Symbol.TheVariants as symbol
+use Rattle.pm_lexer.specs.Symbol.{is}
+use Rattle.pm_lexer.specs.Language.{Lang, Is, IsFurther, IsList, never}
+use Rattle.pm_syntax.specs.declared.tree.PlacedName.{PlacedName}
+use Rattle.pm_syntax.specs.declared.tree.ColumnName.{ColumnName}
+use Rattle.pm_syntax.specs.declared.tree.Expr.{Expr}
+use Rattle.pm_syntax.specs.declared.tree.Item.{Item}
+use Rattle.pm_syntax.specs.declared.tree.Items.{Items}
+use Rattle.pm_syntax.specs.declared.tree.Items.TheVariants as items
+use Rattle.pm_syntax.specs.declared.tree.Source.{Source}
+use Rattle.pm_syntax.specs.declared.tree.Test.{Test}
+use Rattle.pm_syntax.specs.declared.tree.OrderItem.{OrderItem}
+use Rattle.pm_syntax.specs.Grammar.{IsName, IsColumn, IsExpr, IsGiven, IsItem, IsItems, IsCondition, IsJoin, IsOn, IsSource, IsSources, IsFilter, IsGroups, IsHaving, IsDirection, IsKey, IsOrders}
+use Rattle.pm_canonical.proofs.Shapes.{Shape, sign, word, between, shape_name, shapes_column, shapes_expr, shapes_given, shapes_item, shapes_items, shapes_source, shapes_further, shapes_sources, shapes_test, shapes_condition, shapes_list, shapes_key}
+use Rattle.pm_canonical.specs.Same.{unplaced_option, unplaced_name, unplaced_column, unplaced_expr, unplaced_item, unplaced_items, unplaced_test, unplaced_source, unplaced_key}
+use Rattle.pm_canonical.proofs.Valid.{Where, ValidList, ValidPart, ValidColumn, ValidExpr, ValidItem, ValidItems, ValidSource, Unjoined, Fits, whole}
+use Rattle.pm_canonical.proofs.Combinators.{Reading, Stands, Entry, each, pure, shaped, better, mapped, left, right, bind, behind, given, more_read, list_of}
+use Rattle.pm_canonical.proofs.Standing.{stands_star, stands_comma, stands_join, stands_on, stands_where, stands_group, stands_by, stands_having, stands_order, stands_desc}
+use Rattle.pm_canonical.proofs.NameReadings.{name_read, column_read, expr_read, given_read}
+use Rattle.pm_canonical.proofs.LeafReadings.{SameTest}
+use Rattle.pm_canonical.proofs.TestReadings.{fits_read}
+
+-- what a tree and another agree in
+abbrev SameName : PlacedName → PlacedName → Type 0
+SameName x y = unplaced_name y ≡ unplaced_name x
+
+abbrev SameGiven : Option PlacedName → Option PlacedName → Type 0
+SameGiven x y = unplaced_option unplaced_name y ≡ unplaced_option unplaced_name x
+
+abbrev SameExpr : Expr → Expr → Type 0
+SameExpr x y = unplaced_expr y ≡ unplaced_expr x
+
+abbrev SameItem : Item → Item → Type 0
+SameItem x y = unplaced_item y ≡ unplaced_item x
+
+abbrev pub SameItems : Items → Items → Type 0
+SameItems x y = unplaced_items y ≡ unplaced_items x
+
+abbrev SameSource : Source → Source → Type 0
+SameSource x y = unplaced_source y ≡ unplaced_source x
+
+abbrev pub SameSources : List Source → List Source → Type 0
+SameSources x y = map unplaced_source y ≡ map unplaced_source x
+
+abbrev pub SameCondition : Option Test → Option Test → Type 0
+SameCondition x y = unplaced_option unplaced_test y ≡ unplaced_option unplaced_test x
+
+abbrev pub SameColumns : List ColumnName → List ColumnName → Type 0
+SameColumns x y = map unplaced_column y ≡ map unplaced_column x
+
+abbrev SameKey : OrderItem → OrderItem → Type 0
+SameKey x y = unplaced_key y ≡ unplaced_key x
+
+abbrev pub SameKeys : List OrderItem → List OrderItem → Type 0
+SameKeys x y = map unplaced_key y ≡ map unplaced_key x
+
+item_read : (item : Item) → Reading IsItem (SameItem item) (shapes_item item)
+unfolding shapes_item
+item_read item =
+    bind IsExpr (λ e next. IsGiven (λ name. next (record { expr = e; given = name }))) (SameExpr item.expr) (SameItem item) (shapes_expr item.expr) (shapes_given item.given) (expr_read item.expr)
+    (λ e f. mapped IsGiven (λ name. record { expr = e; given = name }) (SameGiven item.given) (SameItem item) (shapes_given item.given) (given_read item.given)
+    (λ name g. ap (λ x. record { expr = x; given = unplaced_option unplaced_name name }) f ∙ ap (λ x. record { expr = unplaced_expr item.expr; given = x }) g))
+
+abbrev StarOnly : Lang Items
+StarOnly next = Is (is symbol.Star) (λ star. next (items.All star.at))
+
+abbrev Listed : Lang Items
+Listed next = IsList never 64 IsItem (is symbol.Comma) (λ list. next (items.List list))
+
+pub items_read : (s : Items) → ValidItems s → Reading (IsItems never) (SameItems s) (shapes_items s)
+unfolding shapes_items
+items_read (items.All at) valid =
+    left StarOnly Listed _ (sign symbol.Star ∷ []) (behind symbol.Star (sign symbol.Star) stands_star (λ star next. next (items.All star.at)) (SameItems (items.All at)) [] (λ star _. pure _ (items.All star.at) refl))
+items_read (items.List list) valid =
+    right StarOnly Listed _ (between (sign symbol.Comma) (map shapes_item list))
+    (mapped (IsList never 64 IsItem (is symbol.Comma)) (λ r. items.List r) (λ r. map unplaced_item r ≡ map unplaced_item list) (SameItems (items.List list)) _
+    (list_of 64 IsItem symbol.Comma (sign symbol.Comma) stands_comma unplaced_item shapes_item ValidItem (λ item _. item_read item) list valid.some valid.within valid.each)
+    (λ r e. ap (λ x. items.List x) e))
+
+-- a source by its parts
+source_same : (table x : PlacedName) (alias y : Option PlacedName) (on z : Option Test) → SameName table x → SameGiven alias y → SameCondition on z
+    → SameSource (record { table = table; alias = alias; on = on }) (record { table = x; alias = y; on = z })
+source_same table x alias y on z e f g =
+    ap (λ a. record { table = a; alias = unplaced_option unplaced_name y; on = unplaced_option unplaced_test z }) e
+    ∙ ap (λ a. record { table = unplaced_name table; alias = a; on = unplaced_option unplaced_test z }) f
+    ∙ ap (λ a. record { table = unplaced_name table; alias = unplaced_option unplaced_name alias; on = a }) g
+
+source_with : (joined : Bool) (table : PlacedName) (alias : Option PlacedName) (on : Option Test) (s : List Shape) → Reading (IsOn 32 never joined) (SameCondition on) s
+    → Reading (IsSource 32 never joined) (SameSource (record { table = table; alias = alias; on = on })) (shape_name table.text ∷ shapes_given alias ++ s)
+source_with joined table alias on s p =
+    bind IsName (λ x next. IsGiven (λ y. IsOn 32 never joined (λ z. next (record { table = x; alias = y; on = z })))) (SameName table) _ (shape_name table.text ∷ []) (shapes_given alias ++ s) (name_read table)
+    (λ x e. bind IsGiven (λ y next. IsOn 32 never joined (λ z. next (record { table = x; alias = y; on = z }))) (SameGiven alias) _ (shapes_given alias) s (given_read alias)
+    (λ y f. mapped (IsOn 32 never joined) (λ z. record { table = x; alias = y; on = z }) (SameCondition on) _ s p (λ z g. source_same table x alias y on z e f g)))
+
+source_alone : (table : PlacedName) (alias : Option PlacedName) → Reading (IsSource 32 never false) (SameSource (record { table = table; alias = alias; on = None })) (shape_name table.text ∷ shapes_given alias)
+source_alone table alias = shaped _ _ _ _ (append-nil (shape_name table.text ∷ shapes_given alias)) (source_with false table alias None [] (pure (SameCondition None) None refl))
+
+source_joined : (table : PlacedName) (alias : Option PlacedName) (on : Test) → Fits false whole 32 on
+    → Reading (IsSource 32 never true) (SameSource (record { table = table; alias = alias; on = Some on })) (shape_name table.text ∷ shapes_given alias ++ word symbol.On ∷ shapes_test on)
+source_joined table alias on fits =
+    source_with true table alias (Some on) (word symbol.On ∷ shapes_test on)
+    (behind symbol.On (word symbol.On) stands_on (λ _ next. IsCondition false 32 never (λ cond. next (Some cond))) (SameCondition (Some on)) (shapes_test on)
+    (λ _ _. mapped (IsCondition false 32 never) (λ cond. Some cond) (SameTest on) (SameCondition (Some on)) (shapes_test on) (fits_read false whole 32 on fits) (λ y e. ap (λ x. Some x) e)))
+
+-- the first source, and those behind it
+first_read : (s : Source) → s.on ≡ None → Reading (IsSource 32 never false) (SameSource s) (shapes_source s)
+unfolding shapes_source
+first_read s alone =
+    better (IsSource 32 never false) (SameSource (record { table = s.table; alias = s.alias; on = None })) (SameSource s) (shape_name s.table.text ∷ shapes_given s.alias)
+    (λ y e. e ∙ ap (λ x. unplaced_source (record { table = s.table; alias = s.alias; on = x })) (sym alone)) (source_alone s.table s.alias)
+
+abbrev Commas : Type 0 → Lang Source
+Commas C next = Is (is symbol.Comma) (λ _ ts. C × IsSource 32 never false next ts)
+
+abbrev Joins : Type 0 → Lang Source
+Joins C next = Is (is symbol.Join) (λ _ ts. C × IsSource 32 never true next ts)
+
+abbrev Inners : Type 0 → Lang Source
+Inners C next = Is (is symbol.Inner) (λ _. Is (is symbol.Join) (λ _ ts. C × IsSource 32 never true next ts))
+
+further_with : (table : PlacedName) (alias : Option PlacedName) (on : Option Test) → Where (Fits false whole 32) on → Entry IsJoin (IsSource 32 never) (SameSource (record { table = table; alias = alias; on = on })) (shapes_further on (record { table = table; alias = alias; on = on }))
+unfolding shapes_source
+further_with table alias None fits C c =
+    left (Commas C) (λ next ts. Joins C next ts ⊎ Inners C next ts) _ (sign symbol.Comma ∷ shape_name table.text ∷ shapes_given alias)
+    (behind symbol.Comma (sign symbol.Comma) stands_comma (λ _ next ts. C × IsSource 32 never false next ts) _ (shape_name table.text ∷ shapes_given alias)
+    (λ _ _. given (IsSource 32 never false) _ _ C c (source_alone table alias)))
+further_with table alias (Some on) fits C c =
+    right (Commas C) (λ next ts. Joins C next ts ⊎ Inners C next ts) _ _ (left (Joins C) (Inners C) _ (word symbol.Join ∷ shape_name table.text ∷ shapes_given alias ++ word symbol.On ∷ shapes_test on)
+    (behind symbol.Join (word symbol.Join) stands_join (λ _ next ts. C × IsSource 32 never true next ts) _ (shape_name table.text ∷ shapes_given alias ++ word symbol.On ∷ shapes_test on)
+    (λ _ _. given (IsSource 32 never true) _ _ C c (source_joined table alias on fits))))
+
+pub sources_read : (sources : List Source) → ValidList 64 ValidSource sources → Unjoined sources → Reading (IsSources 32 never) (SameSources sources) (shapes_sources sources)
+sources_read [] valid alone = let some = valid.some in absurd (omega arith)
+sources_read (first ∷ others) valid alone =
+    bind (IsSource 32 never false) (λ x. IsFurther never 64 IsJoin (IsSource 32 never) (x ∷ [])) (SameSource first) (SameSources (first ∷ others)) (shapes_source first) (flat_map (λ s. shapes_further s.on s) others) (first_read first alone)
+    (λ x same front e.
+    let most = valid.within in
+    let r = more_read 64 IsJoin (IsSource 32 never) unplaced_source (λ s. shapes_further s.on s) (x ∷ []) others
+    (each ValidSource (λ s. Entry IsJoin (IsSource 32 never) (SameSource s) (shapes_further s.on s)) (λ s v. further_with s.table s.alias s.on v.on) others valid.each.1)
+    (omega arith) (length others) refl (unplaced_source first ∷ []) (ap (λ y. y ∷ []) same) front e in
+    record { value = r.value; good = r.good; reads = λ next w n. (length others, r.reads next w n) })
+
+-- [ WHERE cond ] and [ HAVING cond ]
+abbrev Conditioned : Symbol → Bool → Lang (Option Test)
+Conditioned s grouped next = Is (is s) (λ _. IsCondition grouped 32 never (λ cond. next (Some cond)))
+
+condition_read : (s : Symbol) (stands : Stands s (word s)) (grouped : Bool) (cond : Option Test) → Where (Fits grouped whole 32) cond
+    → Reading (λ next ts. next None ts ⊎ Conditioned s grouped next ts) (SameCondition cond) (shapes_condition (word s) cond)
+condition_read s stands grouped None fits = left (λ next. next None) (Conditioned s grouped) _ [] (pure (SameCondition None) None refl)
+condition_read s stands grouped (Some cond) fits =
+    right (λ next. next None) (Conditioned s grouped) _ (word s ∷ shapes_test cond)
+    (behind s (word s) stands (λ _ next. IsCondition grouped 32 never (λ c. next (Some c))) (SameCondition (Some cond)) (shapes_test cond)
+    (λ _ _. mapped (IsCondition grouped 32 never) (λ c. Some c) (SameTest cond) (SameCondition (Some cond)) (shapes_test cond) (fits_read grouped whole 32 cond fits) (λ y e. ap (λ x. Some x) e)))
+
+pub filter_read : (cond : Option Test) → Where (Fits false whole 32) cond → Reading (IsFilter 32 never) (SameCondition cond) (shapes_condition (word symbol.Where) cond)
+filter_read cond fits = condition_read symbol.Where stands_where false cond fits
+
+pub having_read : (cond : Option Test) → Where (Fits true whole 32) cond → Reading (IsHaving 32 never) (SameCondition cond) (shapes_condition (word symbol.Having) cond)
+having_read cond fits = condition_read symbol.Having stands_having true cond fits
+
+-- [ GROUP BY column { "," column } ] and [ ORDER BY key { "," key } ]
+abbrev By : {A : Type 0} → Symbol → Lang A → Lang (List A)
+By s P next = Is (is s) (λ _. Is (is symbol.By) (λ _. IsList never 64 P (is symbol.Comma) next))
+
+part_read : {A B : Type 0} (s : Symbol) (stands : Stands s (word s)) (P : Lang A) (u : A → B) (f : A → List Shape) (V : A → Type 0) → ((x : A) → V x → Reading P (λ y. u y ≡ u x) (f x)) → (xs : List A) → ValidPart 64 V xs
+    → Reading (λ next ts. next [] ts ⊎ By s P next ts) (λ r. map u r ≡ map u xs) (shapes_list (word s ∷ word symbol.By ∷ []) f xs)
+part_read s stands P u f V entry [] valid = left (λ next. next []) (By s P) _ [] (pure _ [] refl)
+part_read s stands P u f V entry (x ∷ xs) valid =
+    right (λ next. next []) (By s P) _ (word s ∷ word symbol.By ∷ between (sign symbol.Comma) (map f (x ∷ xs)))
+    (behind s (word s) stands (λ _ next. Is (is symbol.By) (λ _. IsList never 64 P (is symbol.Comma) next)) _ (word symbol.By ∷ between (sign symbol.Comma) (map f (x ∷ xs)))
+    (λ _ _. behind symbol.By (word symbol.By) stands_by (λ _ next. IsList never 64 P (is symbol.Comma) next) _ (between (sign symbol.Comma) (map f (x ∷ xs)))
+    (λ _ _. list_of 64 P symbol.Comma (sign symbol.Comma) stands_comma u f V entry (x ∷ xs) (omega arith) valid.within valid.each)))
+
+pub groups_read : (groups : List ColumnName) → ValidPart 64 ValidColumn groups → Reading (IsGroups never) (SameColumns groups) (shapes_list (word symbol.Group ∷ word symbol.By ∷ []) shapes_column groups)
+groups_read groups valid = part_read symbol.Group stands_group IsColumn unplaced_column shapes_column ValidColumn (λ c _. column_read c) groups valid
+
+direction_read : (descending : Bool) → Reading IsDirection (λ y. y ≡ descending) (if descending then word symbol.Desc ∷ [] else [])
+direction_read false = left (λ next. next false) (λ next ts. Is (is symbol.Asc) (λ _. next false) ts ⊎ Is (is symbol.Desc) (λ _. next true) ts) _ [] (pure _ false refl)
+direction_read true =
+    right (λ next. next false) (λ next ts. Is (is symbol.Asc) (λ _. next false) ts ⊎ Is (is symbol.Desc) (λ _. next true) ts) _ (word symbol.Desc ∷ [])
+    (right (λ next. Is (is symbol.Asc) (λ _. next false)) (λ next. Is (is symbol.Desc) (λ _. next true)) _ (word symbol.Desc ∷ [])
+    (behind symbol.Desc (word symbol.Desc) stands_desc (λ _ next. next true) _ [] (λ _ _. pure _ true refl)))
+
+key_read : (key : OrderItem) → Reading IsKey (SameKey key) (shapes_key key)
+unfolding shapes_key
+key_read key =
+    bind IsExpr (λ e next. IsDirection (λ down. next (record { expr = e; descending = down }))) (SameExpr key.expr) (SameKey key) (shapes_expr key.expr) (if key.descending then word symbol.Desc ∷ [] else []) (expr_read key.expr)
+    (λ e f. mapped IsDirection (λ down. record { expr = e; descending = down }) (λ y. y ≡ key.descending) (SameKey key) _ (direction_read key.descending)
+    (λ down g. ap (λ x. record { expr = x; descending = down }) f ∙ ap (λ x. record { expr = unplaced_expr key.expr; descending = x }) g))
+
+pub orders_read : (orders : List OrderItem) → ValidPart 64 (λ key. ValidExpr key.expr) orders → Reading (IsOrders never) (SameKeys orders) (shapes_list (word symbol.Order ∷ word symbol.By ∷ []) shapes_key orders)
+orders_read orders valid = part_read symbol.Order stands_order IsKey unplaced_key shapes_key (λ key. ValidExpr key.expr) (λ key _. key_read key) orders valid
