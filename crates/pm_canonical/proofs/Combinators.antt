@@ -6,7 +6,7 @@ use Rattle.pm_lexer.specs.declared.token.Token.{Token}
 use Rattle.pm_lexer.specs.declared.symbol.Symbol.{Symbol}
 use Rattle.pm_lexer.specs.Symbol.{symbol_of, symbol_at, same_symbol, is}
 use Rattle.pm_lexer.specs.Language.{Lang, Is, never, IsMore, IsFurther, IsList}
-use Rattle.pm_canonical.specs.Shapes.{Shape, shape_of, between}
+use Rattle.pm_canonical.proofs.Shapes.{Shape, shape_of, between}
 use Rattle.pm_canonical.proofs.Valid.{Every}
 
 -- a value, and nothing behind it
@@ -92,16 +92,16 @@ right P Q Good a p front e = let x = p front e in record { value = x.value; good
 pub given : {A : Type 0} (P : Lang A) (Good : A → Type 0) (a : List Shape) (C : Type 0) → C → Reading P Good a → Reading (λ next ts. C × P next ts) Good a
 given P Good a C c p front e = let x = p front e in record { value = x.value; good = x.good; reads = λ next w h. (c, x.reads next w h) }
 
--- a symbol that tokens of this shape are
+-- tokens of this shape are this symbol
 abbrev pub Stands : Symbol → Shape → Type 0
 Stands s h = same_symbol (symbol_at h.kind h.slice) s ≡ true
 
-pub stands_is : (s : Symbol) (h : Shape) → Stands s h → (t : Token) → shape_of t ≡ h → is s t ≡ true
+pub passes : (s : Symbol) (h : Shape) → Stands s h → (t : Token) → shape_of t ≡ h → is s t ≡ true
 unfolding symbol_of
-stands_is s h stands t e = ap (λ x. same_symbol (symbol_at x.kind x.slice) s) e ∙ stands
+passes s h stands t e = ap (λ x. same_symbol (symbol_at x.kind x.slice) s) e ∙ stands
 
 pub symbol_token : (s : Symbol) (h : Shape) → Stands s h → Reading (Is (is s)) (λ t. shape_of t ≡ h) (h ∷ [])
-symbol_token s h stands = token (is s) h (stands_is s h stands)
+symbol_token s h stands = token (is s) h (passes s h stands)
 
 -- a symbol, and then a phrase
 pub behind : {B : Type 0} (s : Symbol) (h : Shape) → Stands s h → (Q : Token → Lang B) (Better : B → Type 0) (b : List Shape) → ((t : Token) → shape_of t ≡ h → Reading (Q t) Better b) → Reading (λ next. Is (is s) (λ t. Q t next)) Better (h ∷ b)

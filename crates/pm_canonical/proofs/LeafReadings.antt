@@ -12,11 +12,11 @@ use Rattle.pm_syntax.specs.declared.tree.Test.{Test}
 use Rattle.pm_syntax.specs.declared.tree.Test.TheVariants as test
 use Rattle.pm_syntax.specs.Terminals.{comparison_of, comparison_of_symbol, compares}
 use Rattle.pm_syntax.specs.Grammar.{IsLiteral, IsOperand, IsOptional, IsCompare, IsNullTest, IsIn, IsBetween, IsTest}
-use Rattle.pm_canonical.specs.Shapes.{Shape, shape_of, sign, word, between, shapes_literal, shapes_atom, shape_comparison, shapes_negation, shapes_layer, phrase_of, in_parens}
+use Rattle.pm_canonical.proofs.Shapes.{Shape, shape_of, sign, word, between, shapes_literal, shapes_atom, shape_comparison, shapes_negation, shapes_layer, phrase_of, in_parens}
 use Rattle.pm_canonical.specs.Same.{unplaced_atom, unplaced_layer, unplaced_test}
 use Rattle.pm_canonical.proofs.Valid.{ValidList, ValidLiteral, ValidAtom, ValidLeaf, compared, null_test, listed, ranged}
-use Rattle.pm_canonical.proofs.Combinators.{Reading, pure, shaped, better, mapped, left, right, bind, behind, token, stands_is, list_of}
-use Rattle.pm_canonical.proofs.Standing.{stands_is as is_stands, stands_not, stands_null, stands_in, stands_open, stands_close, stands_comma, stands_between, stands_and}
+use Rattle.pm_canonical.proofs.Combinators.{Reading, pure, shaped, better, mapped, left, right, bind, behind, token, passes, list_of}
+use Rattle.pm_canonical.proofs.Standing.{stands_is, stands_not, stands_null, stands_in, stands_open, stands_close, stands_comma, stands_between, stands_and}
 use Rattle.pm_canonical.proofs.Folds.{fold_compare, fold_null, fold_one_of, fold_between}
 use Rattle.pm_canonical.proofs.OperandReadings.{literal_read, operand_read}
 
@@ -74,14 +74,14 @@ compare_read grouped how l r at lv rv =
     (λ y g. compared_same how l r at t x y e f g))))
 
 not_read : (negated : Bool) → Reading (IsOptional (is symbol.Not)) (λ o. is_some o ≡ negated) (shapes_negation negated)
-not_read negated = optional_read (is symbol.Not) (word symbol.Not) (stands_is symbol.Not (word symbol.Not) stands_not) negated
+not_read negated = optional_read (is symbol.Not) (word symbol.Not) (passes symbol.Not (word symbol.Not) stands_not) negated
 
 null_read : (grouped : Bool) (of : Atom) (negated : Bool) → ValidAtom grouped of
     → Reading (IsTest grouped never) (SameTest (test.IsNull of negated)) (shapes_atom of ++ (word symbol.Is ∷ shapes_negation negated ++ word symbol.Null ∷ []))
 null_read grouped of negated valid =
     bind (IsOperand grouped) (Behind grouped) (SameAtom of) _ (shapes_atom of) (word symbol.Is ∷ shapes_negation negated ++ word symbol.Null ∷ []) (operand_read grouped of valid)
     (λ x f. right (IsCompare grouped x) (Later grouped x) _ _ (left (IsNullTest x) (Negated grouped x) _ (word symbol.Is ∷ shapes_negation negated ++ word symbol.Null ∷ [])
-    (behind symbol.Is (word symbol.Is) is_stands (λ _ next. IsOptional (is symbol.Not) (λ o. Is (is symbol.Null) (λ _. next (test.IsNull x (is_some o))))) _ (shapes_negation negated ++ word symbol.Null ∷ [])
+    (behind symbol.Is (word symbol.Is) stands_is (λ _ next. IsOptional (is symbol.Not) (λ o. Is (is symbol.Null) (λ _. next (test.IsNull x (is_some o))))) _ (shapes_negation negated ++ word symbol.Null ∷ [])
     (λ _ _. bind (IsOptional (is symbol.Not)) (λ o next. Is (is symbol.Null) (λ _. next (test.IsNull x (is_some o)))) (λ o. is_some o ≡ negated) _ (shapes_negation negated) (word symbol.Null ∷ []) (not_read negated)
     (λ o n. behind symbol.Null (word symbol.Null) stands_null (λ _ next. next (test.IsNull x (is_some o))) _ []
     (λ _ _. pure _ (test.IsNull x (is_some o))

@@ -16,6 +16,7 @@ pub mod Points
 pub mod Quoting
 pub mod ReadsBack
 pub mod Runs
+pub mod Shapes
 pub mod Sound
 pub mod Spelled
 pub mod SpelledSelect

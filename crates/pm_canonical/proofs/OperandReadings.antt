@@ -16,7 +16,7 @@ use Rattle.pm_syntax.specs.declared.tree.Atom.TheVariants as atom
 use Rattle.pm_syntax.specs.Terminals.{magnitude, magnitude_of}
 use Rattle.pm_syntax.specs.Grammar.{IsLiteral, IsTerm, IsOperand}
 use Rattle.pm_canonical.specs.Canon.{quoted, padded}
-use Rattle.pm_canonical.specs.Shapes.{Shape, shape_of, sign, word, shape_digits, shapes_number, shapes_expr, shapes_literal, shapes_atom}
+use Rattle.pm_canonical.proofs.Shapes.{Shape, shape_of, sign, word, shape_digits, shapes_number, shapes_expr, shapes_literal, shapes_atom}
 use Rattle.pm_canonical.specs.Same.{unplaced_expr, unplaced_atom}
 use Rattle.pm_canonical.proofs.Valid.{ValidNumber, ValidLiteral, ValidTerm, ValidAtom}
 use Rattle.pm_canonical.proofs.Combinators.{Reading, pure, shaped, mapped, left, right, bind, behind, symbol_token, Stands}

@@ -58,7 +58,7 @@ placeless_atom : (a : Atom) → canon_atom (unplaced_atom a) ≡ canon_atom a
 placeless_atom (atom.Expr e) = placeless_expr e
 placeless_atom (atom.Literal l) = refl
 
--- a condition that is what its places do not say
+-- the canonical text of a condition is that of the condition without its places
 abbrev Placeless : Test → Type 0
 Placeless t = text_of (unplaced_test t) ≡ text_of t
 

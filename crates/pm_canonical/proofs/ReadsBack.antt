@@ -13,15 +13,15 @@ use Rattle.pm_syntax.specs.declared.tree.OrderItem.{OrderItem}
 use Rattle.pm_syntax.specs.declared.tree.Select.{Select}
 use Rattle.pm_syntax.specs.Grammar.{IsOptional, IsItems, IsSources, IsFilter, IsGroups, IsHaving, IsOrders, IsSelect}
 use Rattle.pm_syntax.specs.Statement.{Reads}
-use Rattle.pm_canonical.specs.Shapes.{Shape, shape_of, end_shape, word, shapes_column, shapes_items, shapes_sources, shapes_condition, shapes_list, shapes_key, shapes_select}
+use Rattle.pm_canonical.proofs.Shapes.{Shape, shape_of, end_shape, word, shapes_column, shapes_items, shapes_sources, shapes_condition, shapes_list, shapes_key, shapes_select}
 use Rattle.pm_canonical.specs.Same.{unplaced, SameTree}
 use Rattle.pm_canonical.proofs.Valid.{Valid}
-use Rattle.pm_canonical.proofs.Combinators.{Whole, Reading, Stands, stands_is, pure, left, bind, behind}
+use Rattle.pm_canonical.proofs.Combinators.{Whole, Reading, Stands, passes, pure, left, bind, behind}
 use Rattle.pm_canonical.proofs.Standing.{stands_select, stands_distinct, stands_from}
 use Rattle.pm_canonical.proofs.LeafReadings.{optional_read}
 use Rattle.pm_canonical.proofs.PartsReadings.{SameItems, SameSources, SameCondition, SameColumns, SameKeys, items_read, sources_read, filter_read, groups_read, having_read, orders_read}
 
--- a statement by its parts, as many as were read so far
+-- a statement by its parts, and the languages of its last parts
 abbrev built : Option Token → Items → List Source → Option Test → List ColumnName → Option Test → List OrderItem → Select
 built distinct items sources filter groups having orders =
     record { distinct = is_some distinct; items = items; sources = sources; filter = filter; groups = groups; having = having; orders = orders }
@@ -92,7 +92,7 @@ whole_read : (s : Select) → Valid s → Reading (IsSelect 32 never) (Same s) (
 whole_read s valid =
     behind symbol.Select (word symbol.Select) stands_select (λ _ next. IsOptional (is symbol.Distinct) (λ d. Itemed (built d) next)) (Same s) _
     (λ _ _. bind (IsOptional (is symbol.Distinct)) (λ d. Itemed (built d)) (λ d. is_some d ≡ s.distinct) (Same s) (if s.distinct then word symbol.Distinct ∷ [] else []) _
-    (optional_read (is symbol.Distinct) (word symbol.Distinct) (stands_is symbol.Distinct (word symbol.Distinct) stands_distinct) s.distinct)
+    (optional_read (is symbol.Distinct) (word symbol.Distinct) (passes symbol.Distinct (word symbol.Distinct) stands_distinct) s.distinct)
     (λ d e1. bind (IsItems never) (λ x next. Is (is symbol.From) (λ _. Sourced (built d x) next)) (SameItems s.items) (Same s) (shapes_items s.items) (word symbol.From ∷ tail_shapes s) (items_read s.items valid.items)
     (λ x e2. behind symbol.From (word symbol.From) stands_from (λ _ next. Sourced (built d x) next) (Same s) (tail_shapes s) (λ _ _. tail_read s valid d x e1 e2))))
 

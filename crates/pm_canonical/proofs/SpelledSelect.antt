@@ -14,7 +14,7 @@ use Rattle.pm_syntax.specs.declared.tree.Test.{Test}
 use Rattle.pm_syntax.specs.declared.tree.OrderItem.{OrderItem}
 use Rattle.pm_syntax.specs.declared.tree.Select.{Select}
 use Rattle.pm_canonical.specs.Canon.{joined, canon_column, canon_expr, canon_test, canon_given, canon_item, canon_items, canon_source, canon_further, canon_sources, canon_key, canon_condition, canon_list, canon}
-use Rattle.pm_canonical.specs.Shapes.{Shape, shape_of, end_shape, word, sign, between, shapes_column, shapes_expr, shapes_given, shapes_item, shapes_items, shapes_source, shapes_further, shapes_sources, shapes_key, shapes_condition, shapes_list, shapes_select}
+use Rattle.pm_canonical.proofs.Shapes.{Shape, shape_of, end_shape, word, sign, between, shapes_column, shapes_expr, shapes_given, shapes_item, shapes_items, shapes_source, shapes_further, shapes_sources, shapes_key, shapes_condition, shapes_list, shapes_select}
 use Rattle.pm_canonical.proofs.Valid.{Every, Where, ValidPlaced, ValidColumn, ValidExpr, ValidItem, ValidItems, ValidSource, Role, Fits, Valid}
 use Rattle.pm_canonical.proofs.Runs.{Follows, follows_append}
 use Rattle.pm_canonical.proofs.Spelling.{lexes_end, Spells, any, ends, spells_none, spells_both, spells_then, spells_after}

@@ -6,7 +6,7 @@ use Rattle.pm_lexer.specs.Symbol.{reserved_word}
 use Rattle.pm_syntax.specs.declared.tree.Test.{Test}
 use Rattle.pm_syntax.specs.declared.tree.Test.TheVariants as test
 use Rattle.pm_canonical.specs.Canon.{Text, plain, joined, is_wrapped, member_of, separator, negation, canon_comparison, canon_literal, canon_atom, canon_layer, text_of}
-use Rattle.pm_canonical.specs.Shapes.{Shape, Phrase, single, word, sign, between, in_parens, member_shapes, list_word, shapes_negation, shape_comparison, shapes_literal, shapes_atom, shapes_layer, phrase_of}
+use Rattle.pm_canonical.proofs.Shapes.{Shape, Phrase, single, word, sign, between, in_parens, member_shapes, list_word, shapes_negation, shape_comparison, shapes_literal, shapes_atom, shapes_layer, phrase_of}
 use Rattle.pm_canonical.proofs.Valid.{Every, ValidLiteral, ValidLeaf, Role, Fits, FitsEach}
 use Rattle.pm_canonical.proofs.Folds.{fold_any, fold_all, fold_not, fold_compare, fold_null, fold_one_of, fold_between}
 use Rattle.pm_canonical.proofs.Runs.{Follows}

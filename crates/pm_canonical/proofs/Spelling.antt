@@ -8,7 +8,7 @@ use Rattle.pm_lexer.specs.declared.head.Head.TheVariants as head
 use Rattle.pm_lexer.specs.Head.{head_of}
 use Rattle.pm_lexer.specs.Tokens.{end_token, tokens_behind}
 use Rattle.pm_lexer.proofs.Walk.{walk_gap, walk_piece, walk_end}
-use Rattle.pm_canonical.specs.Shapes.{Shape, shape_of, end_shape}
+use Rattle.pm_canonical.proofs.Shapes.{Shape, shape_of, end_shape}
 use Rattle.pm_canonical.proofs.Runs.{Follows, follows_append, follows_weaker}
 
 -- at each place this text has tokens of these shapes

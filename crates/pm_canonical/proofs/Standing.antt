@@ -2,7 +2,7 @@
 use Rattle.std.proofs.Common.{refl}
 use Rattle.pm_lexer.specs.declared.symbol.Symbol.TheVariants as symbol
 use Rattle.pm_lexer.specs.Symbol.{same_symbol, reserved_word, canonical_sign}
-use Rattle.pm_canonical.specs.Shapes.{word, sign}
+use Rattle.pm_canonical.proofs.Shapes.{word, sign}
 use Rattle.pm_canonical.proofs.Combinators.{Stands}
 
 pub stands_select : Stands symbol.Select (word symbol.Select)

@@ -1,4 +1,4 @@
--- Names, columns, expressions and literals that reading gives are valid.
+-- Names and numbers that tokens stand for are valid.
 use Rattle.std.proofs.Common.{◌≡◌, ◌<◌, ◌^◌, ℕ, suc, zero, ℤ, pos, neg_ℤ, Bool, true, false, not, List, [], ◌∷◌, length, filter, cond, Some, unwrap_or, if◌then◌else◌, codes, unsigned_abs, refl, sym, ◌∙◌, ap, arith}
 use Rattle.std.proofs.lemmas.Bool.{and_parts}
 use Rattle.std.specs.List.{find, list_all}

@@ -10,7 +10,7 @@ use Rattle.pm_lexer.specs.declared.symbol.Symbol.{Symbol}
 use Rattle.pm_lexer.specs.declared.symbol.Symbol.TheVariants as symbol
 use Rattle.pm_lexer.specs.Symbol.{spelling, reserved_word, canonical_sign, sign_of}
 use Rattle.pm_lexer.specs.Head.{sign_at, head_of}
-use Rattle.pm_canonical.specs.Shapes.{word, sign}
+use Rattle.pm_canonical.proofs.Shapes.{word, sign}
 use Rattle.pm_canonical.proofs.Runs.{Follows}
 use Rattle.pm_canonical.proofs.Spelling.{Spells, any, ends, stops, spells_gap, spells_piece, spells_weaker, spells_at, spells_after}
 use Rattle.pm_canonical.proofs.Heads.{is_wordy, word_opens}

@@ -1,4 +1,3 @@
 pub mod Canon
 pub mod ReadBack
 pub mod Same
-pub mod Shapes

@@ -17,7 +17,7 @@ use Rattle.pm_syntax.specs.declared.tree.Test.TheOpen as layer
 use Rattle.pm_syntax.specs.declared.tree.OrderItem.{OrderItem}
 use Rattle.pm_syntax.specs.declared.tree.Select.{Select}
 
--- what a value is, where there is one
+-- f of a value, where there is one
 abbrev pub unplaced_option : {A : Type 0} → (A → A) → Option A → Option A
 unplaced_option f None = None
 unplaced_option f (Some x) = Some (f x)

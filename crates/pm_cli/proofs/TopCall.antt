@@ -11,7 +11,7 @@ use Rattle.pm_inputs.specs.Calls as inputs
 use Rattle.pm_inputs.specs.Stops.{IfFile}
 use Rattle.pm_io.specs.Files.{Held}
 use Rattle.pm_tables.specs.declared.fault.DataBad.{DataBad}
-use Rattle.pm_tables.specs.declared.fault.DataBad.TheVariants as data
+use Rattle.pm_tables.specs.declared.fault.DataBad.TheVariants as bad
 use Rattle.pm_cli.specs.declared.status.Status.{Status}
 use Rattle.pm_cli.specs.declared.status.Status.TheVariants as status
 use Rattle.pm_cli.specs.Status.{status_of}
@@ -72,23 +72,23 @@ called-line r refusal.NotBuilt P e none h = line-moved r refusal.NotBuilt P e h
 called-line r refusal.NoMemory P e none h = absurd (none tt)
 
 -- the line of a refused table
-data-written : (name : List ℕ) (fault : DataBad) (P : List ℕ → Type 0) → fault ≢ data.Memory → IfSome (data_line name fault) P → (line : List ℕ) × (data_line name fault ≡ Some line) × P line
+data-written : (name : List ℕ) (fault : DataBad) (P : List ℕ → Type 0) → fault ≢ bad.Memory → IfSome (data_line name fault) P → (line : List ℕ) × (data_line name fault ≡ Some line) × P line
 data-written name fault P some h = of (data_line name fault) refl h
   where
     of : (found : Option (List ℕ)) → data_line name fault ≡ found → IfSome found P → (line : List ℕ) × (data_line name fault ≡ Some line) × P line
     of None e q = absurd (lacks fault e some)
       where
-        lacks : (f : DataBad) → data_line name f ≡ None → f ≢ data.Memory → ⊥
-        lacks data.TooLong e n = cc e
-        lacks (data.NotText k) e n = cc e
-        lacks data.NoHeader e n = cc e
-        lacks (data.Header k) e n = cc e
-        lacks data.TooManyRows e n = cc e
-        lacks (data.Width k) e n = cc e
-        lacks (data.Field k l) e n = cc e
-        lacks (data.DoubleKey k l) e n = cc e
-        lacks (data.OutOfOrder k) e n = cc e
-        lacks data.Memory e n = n refl
+        lacks : (f : DataBad) → data_line name f ≡ None → f ≢ bad.Memory → ⊥
+        lacks bad.TooLong e n = cc e
+        lacks (bad.NotText k) e n = cc e
+        lacks bad.NoHeader e n = cc e
+        lacks (bad.Header k) e n = cc e
+        lacks bad.TooManyRows e n = cc e
+        lacks (bad.Width k) e n = cc e
+        lacks (bad.Field k l) e n = cc e
+        lacks (bad.DoubleKey k l) e n = cc e
+        lacks (bad.OutOfOrder k) e n = cc e
+        lacks bad.Memory e n = n refl
     of (Some line) e q = (line, e, q)
 
 -- a refusal has a line, which is that of its status

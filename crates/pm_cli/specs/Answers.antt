@@ -9,7 +9,7 @@ use Rattle.pm_lines.specs.declared.refusal.Values.{Values}
 use Rattle.pm_lines.specs.declared.refusal.Values.TheVariants.{Zero, One, Two}
 use Rattle.pm_lines.specs.Refusals.{refusal_line}
 use Rattle.pm_tables.specs.declared.fault.DataBad.{DataBad}
-use Rattle.pm_tables.specs.declared.fault.DataBad.TheVariants as data
+use Rattle.pm_tables.specs.declared.fault.DataBad.TheVariants as bad
 use Rattle.pm_inputs.specs.declared.refusal.Role.{Role}
 use Rattle.pm_inputs.specs.declared.refusal.Refusal.{Refusal}
 use Rattle.pm_inputs.specs.declared.refusal.Refusal.TheVariants as refusal
@@ -47,16 +47,16 @@ IsAnswerTo (Err r) answer = answer ≡ status_of r
 
 -- of a table's file
 abbrev pub data_line : List ℕ → DataBad → Option (List ℕ)
-data_line name data.TooLong = Some (refusal_line 5 word.TooLong (Some name) Zero)
-data_line name (data.NotText n) = Some (refusal_line 5 word.NotText (Some name) (One n))
-data_line name data.NoHeader = Some (refusal_line 5 word.NoHeader (Some name) Zero)
-data_line name (data.Header column) = Some (refusal_line 5 word.Header (Some name) (One column))
-data_line name data.TooManyRows = Some (refusal_line 5 word.TooManyRows (Some name) Zero)
-data_line name (data.Width at) = Some (refusal_line 5 word.Width (Some name) (One at))
-data_line name (data.Field at column) = Some (refusal_line 5 word.Field (Some name) (Two at column))
-data_line name (data.DoubleKey a b) = Some (refusal_line 5 word.DoubleKey (Some name) (Two a b))
-data_line name (data.OutOfOrder at) = Some (refusal_line 5 word.OutOfOrder (Some name) (One at))
-data_line name data.Memory = None
+data_line name bad.TooLong = Some (refusal_line 5 word.TooLong (Some name) Zero)
+data_line name (bad.NotText n) = Some (refusal_line 5 word.NotText (Some name) (One n))
+data_line name bad.NoHeader = Some (refusal_line 5 word.NoHeader (Some name) Zero)
+data_line name (bad.Header column) = Some (refusal_line 5 word.Header (Some name) (One column))
+data_line name bad.TooManyRows = Some (refusal_line 5 word.TooManyRows (Some name) Zero)
+data_line name (bad.Width at) = Some (refusal_line 5 word.Width (Some name) (One at))
+data_line name (bad.Field at column) = Some (refusal_line 5 word.Field (Some name) (Two at column))
+data_line name (bad.DoubleKey a b) = Some (refusal_line 5 word.DoubleKey (Some name) (Two a b))
+data_line name (bad.OutOfOrder at) = Some (refusal_line 5 word.OutOfOrder (Some name) (One at))
+data_line name bad.Memory = None
 
 -- want of memory has no line
 abbrev pub line_of : Refusal → Option (List ℕ)
@@ -112,5 +112,5 @@ IfRole P (status.ReadFault role) = P role
 IfRole P _ = Unit {0}
 
 abbrev pub HasFault : Status → Type 0
-HasFault (status.Table table fault) = fault ≢ data.Memory
+HasFault (status.Table table fault) = fault ≢ bad.Memory
 HasFault _ = Unit {0}

@@ -14,9 +14,9 @@ pub mod status;
 mod tests;
 pub mod top;
 
+pub use pm_inputs::Role;
 use pm_io::{OsFiles, OsSink};
 use pm_values::{OpenGate, Txt};
-pub use pm_inputs::Role;
 pub use status::Status;
 use std::alloc::{AllocError, Global};
 use std::env;

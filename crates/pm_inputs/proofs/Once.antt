@@ -1,6 +1,6 @@
 -- The words and the files call for one answer.
-use Rattle.std.proofs.Common.{◌≡◌, ◌≤◌, ◌⊎◌, ◌∙◌, ℕ, List, [], ◌∷◌, length, Option, Some, None, Result, Ok, Err, refl, sym, ap, subst, inl, inr, arith, slice_get}
-use Rattle.std.specs.Prelude.{◌<◌, IfSome, IfErr, IsErrOf, IsUtf8}
+use Rattle.std.proofs.Common.{◌≡◌, ◌⊎◌, ◌∙◌, ℕ, List, [], ◌∷◌, Option, Some, None, Result, Ok, Err, refl, sym, ap, subst, inl, inr, arith}
+use Rattle.std.specs.Prelude.{IfSome, IfErr, IsErrOf}
 use Rattle.std.proofs.lemmas.Str.{utf8_valid_len-IsValidUpTo}
 use Rattle.pm_values.specs.Table.{Declaration, Relation}
 use Rattle.pm_io.specs.Files.{Held}
@@ -9,14 +9,13 @@ use Rattle.pm_lexer.specs.declared.token.Token.{Token}
 use Rattle.pm_lexer.specs.Tokens.{tokens_of}
 use Rattle.pm_syntax.specs.declared.tree.Source.{Source}
 use Rattle.pm_syntax.specs.declared.tree.Select.{Select}
-use Rattle.pm_tables.specs.Loading.{Answer}
 use Rattle.pm_tables.specs.declared.fault.DataBad.TheVariants as bad
 use Rattle.pm_inputs.specs.declared.texts.Fault.{Fault}
 use Rattle.pm_inputs.specs.declared.refusal.Role.{Role}
 use Rattle.pm_inputs.specs.declared.refusal.Role.TheVariants as role
 use Rattle.pm_inputs.specs.declared.refusal.Refusal.{Refusal}
 use Rattle.pm_inputs.specs.declared.refusal.Refusal.TheVariants as refusal
-use Rattle.pm_inputs.specs.Texts.{GoesOn, Then, lexing_fault, IsFault, Shows, IsNoText, TextGives, SelectGives, SchemaGives, SelectText, SchemaText, syntax_fault, schema_fault}
+use Rattle.pm_inputs.specs.Texts.{GoesOn, Then, lexing_fault, IsFault, Shows, TextGives, SelectGives, SchemaGives, SelectText, SchemaText, syntax_fault, schema_fault}
 use Rattle.pm_inputs.specs.Chosen.{IsWhole, place_named, Chooses, chosen, ChosenGives}
 use Rattle.pm_inputs.specs.Calls.{FileRefuses, FileGives, refused, Refusing, too_long, text_limit, table_limit, most_records, SchemaFile, QueryFile, table_answer, TableGives, TableFile, PlacedFile, QueryPlace, FilesGive, Calls, IfAnswered, IfRefused}
 use Rattle.pm_inputs.specs.Stops.{OnReadFault}

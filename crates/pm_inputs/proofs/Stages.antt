@@ -1,16 +1,19 @@
 -- What the stages of loading answer, together.
-use Rattle.std.proofs.Common.{◌≡◌, ◌≤◌, ℕ, List, [], ◌∷◌, length, get_or, Option, Some, None, Result, Ok, Err, refl, subst, sym, inl, inr, arith, slice_get}
-use Rattle.std.specs.Prelude.{◌<◌, IfSome, IsSomeAnd}
+use Rattle.std.proofs.Common.{◌≡◌, ◌≢◌, ◌≤◌, ◌⊎◌, ◌∙◌, ℕ, ap, List, [], ◌∷◌, length, get_or, Option, Some, None, Result, Ok, Err, refl, inl, inr, arith, slice_get}
+use Rattle.std.specs.Prelude.{◌<◌, IfSome, IfErr}
 use Rattle.pm_io.specs.Files.{Held}
 use Rattle.pm_io.specs.Counts.{Rose}
 use Rattle.pm_io.specs.declared.stand.Stand.{Stand}
-use Rattle.pm_values.specs.Table.{Declaration}
+use Rattle.pm_values.specs.Table.{Declaration, Relation}
+use Rattle.pm_tables.specs.declared.fault.DataBad.{DataBad}
+use Rattle.pm_tables.specs.declared.fault.DataBad.TheVariants as bad
+use Rattle.pm_tables.specs.Loading.{Rows, Refused, IsTable, Faults}
 use Rattle.pm_inputs.specs.declared.refusal.Role.{Role}
 use Rattle.pm_inputs.specs.declared.refusal.Role.TheVariants as role
 use Rattle.pm_inputs.specs.declared.refusal.Refusal.{Refusal}
 use Rattle.pm_inputs.specs.declared.refusal.Refusal.TheVariants as refusal
 use Rattle.pm_inputs.specs.Texts.{Then}
-use Rattle.pm_inputs.specs.Calls.{FileRefuses, FileGives, IfRefused, IfAnswered, SchemaFile, QueryPlace}
+use Rattle.pm_inputs.specs.Calls.{FileGives, IfRefused, IfAnswered, SchemaFile, QueryPlace, most_records, TableGives}
 use Rattle.pm_inputs.specs.Stops.{OnNoFile, StopsAt, IsFileOf, IsOfReading, IsOfTable, IsRead, ReachesFile}
 
 pub list_three : {A : Type 0} (xs : List A) (a b c : A) → 3 ≤ length xs → length xs < 4 → a ≡ get_or xs 0 a → b ≡ get_or xs 1 b → c ≡ get_or xs 2 c → xs ≡ a ∷ b ∷ c ∷ []
@@ -47,6 +50,23 @@ pub told_next : {A B : Type 0} (told : Option Held) (P : Held → Result A Refus
     → IfSome told (λ held. P held (Ok a)) → IfSome told (λ held. IfAnswered (Q held a) out) → IfSome told (λ held. IfAnswered (Then (P held) (Q held)) out)
 told_next None P Q a out p h = tt
 told_next (Some held) P Q a out p h = answered_so (Q held a) (Then (P held) (Q held)) (λ out q. (Ok a, p, q)) out h
+
+answered_all : {A : Type 0} (P : Result A Refusal → Type 0) (out : Result A Refusal) → P out → IfAnswered P out
+answered_all P (Ok a) h = h
+answered_all P (Err refusal.Usage) h = h
+answered_all P (Err (refusal.NoFile role name)) h = h
+answered_all P (Err (refusal.ReadFault role name)) h = tt
+answered_all P (Err (refusal.Schema fault)) h = h
+answered_all P (Err (refusal.Query fault)) h = h
+answered_all P (Err (refusal.Table table name fault)) h = h
+answered_all P (Err refusal.NotBuilt) h = h
+answered_all P (Err refusal.NoMemory) h = tt
+
+-- the first step goes on to the next, which needs no file
+pub told_last : {A B : Type 0} (told : Option Held) (P : Held → Result A Refusal → Type 0) (Q : A → Result B Refusal → Type 0) (a : A) (out : Result B Refusal)
+    → IfSome told (λ held. P held (Ok a)) → Q a out → IfSome told (λ held. IfAnswered (Then (P held) Q) out)
+told_last None P Q a out p q = tt
+told_last (Some held) P Q a out p q = answered_all (Then (P held) Q) out (Ok a, p, q)
 
 -- ---- one file
 
@@ -104,7 +124,25 @@ told_read_so None role name limit long next bytes out h n = tt
 told_read_so (Some held) role name limit long next bytes out h n =
     answered_so (next bytes) (FileGives (held name) role name limit long next) (λ out n. read_gives (held name) role name limit long next bytes out h n) out n
 
+-- ---- the bytes of a table's file
+
+pub table_called : (place : ℕ) (decl copy : Declaration) (bytes : List ℕ) (table : Relation) → copy ≡ decl → table.decl ≡ copy → IsTable copy bytes most_records table.rows → TableGives place decl bytes (Ok table)
+table_called place decl copy bytes table e d is =
+    let same : table ≡ record { decl = decl; rows = table.rows } = ap (λ (d : Declaration). let r : Relation = record { decl = d; rows = table.rows } in r) (d ∙ e) in
+    (Rows table.rows, rw e at is, ap Ok same)
+
+pub fault_called : (place : ℕ) (decl copy : Declaration) (bytes : List ℕ) (e : DataBad) (r : Refusal) → copy ≡ decl → e ≢ bad.Memory → (e ≡ bad.Memory) ⊎ Faults copy bytes most_records e → IfRefused (λ r. r ≡ refusal.Table place decl.name e) r
+    → IfRefused (λ r. TableGives place decl bytes (Err r)) r
+fault_called place decl copy bytes e r same some (inl none) so = absurd (some none)
+fault_called place decl copy bytes e r same some (inr faults) so =
+    refused_so (λ r. r ≡ refusal.Table place decl.name e) (λ r. TableGives place decl bytes (Err r)) (λ r is. (Refused e, rw same at faults, ap Err is)) r so
+
 -- ---- where loading stopped
+
+-- a query that is not run is no stop at a file
+pub unbuilt_stops : {A : Type 0} (IsIts : Role → List ℕ → Type 0) (last : List ℕ) (now : Stand) (gone broke : Type 0) (out : Result A Refusal) → IfErr out (λ r. r ≡ refusal.NotBuilt) → IfErr out (StopsAt IsIts last now gone broke)
+unbuilt_stops IsIts last now gone broke (Ok a) h = tt
+unbuilt_stops IsIts last now gone broke (Err r) h = rw h tt
 
 -- a table's own refusal is no stop at a file
 pub table_stops : (IsIts : Role → List ℕ → Type 0) (last : List ℕ) (now : Stand) (gone broke : Type 0) (r : Refusal) → IsOfTable r → StopsAt IsIts last now gone broke r
@@ -148,4 +186,4 @@ pub reaches_table : (schema query : List ℕ) (told : Option Held) (decls : List
     → IfSome told (λ held. SchemaFile held schema (Ok decls)) → IfSome told (λ held. QueryPlace held query decls (Ok place)) → slice_get decls place ≡ Some decl
     → (r : Role) (n : List ℕ) → IsFileOf (role.Table place) decl.file r n → ReachesFile schema query told r n
 reaches_table schema query None decls place decl s q e r n h = rw h.0 tt
-reaches_table schema query (Some held) decls place decl s q e r n h = rw (h.0, h.1) (decls, (decl, (s, (q, (e, refl)))))
+reaches_table schema query (Some held) decls place decl s q e r n h = rw (h.0, h.1) (decls, decl, s, q, e, refl)

@@ -11,7 +11,6 @@ use Rattle.pm_inputs.specs.declared.refusal.Refusal.{Refusal}
 use Rattle.pm_inputs.specs.declared.refusal.Refusal.TheVariants as refusal
 use Rattle.pm_inputs.specs.Calls.{SchemaFile, QueryPlace, IsRun}
 
-
 -- a fact where a file is absent, and where one could not be read
 abbrev pub OnNoFile : Type 0 → Refusal → Type 0
 OnNoFile P (refusal.NoFile role name) = P

@@ -114,6 +114,7 @@ fn load_schema<F: Files>(alloc: Global, files: &mut F, name: &Txt) -> Result<Sch
     ensures held { F.held files.new ≡ F.held files.old }
     ensures faults { F.faults files.old ≤ F.faults files.new }
     ensures absences { F.absences files.old ≤ F.absences files.new }
+    ensures few { IfOk result (λ decls. length decls ≤ 64) }
     ensures called { IfSome (F.held files.old) (λ held. IfAnswered (SchemaFile held name.now) result) }
     ensures stops { IfErr result (StopsAt (IsFileOf role.Schema name.now)
         (F.last files.new) (F.stand files.new) (Rose (F.absences files.old) (F.absences files.new)) (Rose (F.faults files.old) (F.faults files.new))) }

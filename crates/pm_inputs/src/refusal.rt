@@ -25,10 +25,16 @@ pub enum Refusal {
     Usage,
     /// There is no file of this name.
     #[error("there is no file {}", .name.as_str())]
-    NoFile { role: Role, name: Txt },
+    NoFile {
+        role: Role,
+        name: Txt,
+    },
     /// The file of this name could not be read to its end.
     #[error("the file {} could not be read", .name.as_str())]
-    ReadFault { role: Role, name: Txt },
+    ReadFault {
+        role: Role,
+        name: Txt,
+    },
     /// The schema's file is no schema.
     #[error("the schema is refused")]
     Schema(Fault),

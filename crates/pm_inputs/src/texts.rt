@@ -1,6 +1,6 @@
 //! The bytes of a schema's and of a query's file to what they say.
 
-ghost use Rattle.std.specs.Prelude.{◌≡◌};
+ghost use Rattle.std.specs.Prelude.{◌≡◌, ◌≤◌, length, IfOk};
 ghost use Rattle.pm_inputs.specs.declared.texts.TextBad.TheVariants as bad;
 ghost use Rattle.pm_inputs.specs.Texts.{Gives, IsBad, TextGives, SchemaText, SelectText, lexing_fault, syntax_fault, schema_fault};
 
@@ -96,7 +96,8 @@ fn tokens_of(alloc: Global, bytes: &[u8]) -> Result<Tokens, TextBad>
 
 /// The schema that a text of these bytes declares.
 pub(crate) fn schema_of(alloc: Global, bytes: &[u8]) -> Result<Schema, TextBad>
-    ensures { Gives (SchemaText bytes.now) result }
+    ensures few { IfOk result (λ schema. length schema ≤ 64) }
+    ensures called { Gives (SchemaText bytes.now) result }
 {
     let tokens = tokens_of(alloc, bytes)?;
     Ok(read_schema(alloc, &tokens)?)

@@ -245,5 +245,4 @@ pub fn parse(alloc: Global, tokens: &Tokens) -> Result<Select, SynBad>
 pub fn answers_once()
     ensures some { (tokens : List Token) → (answer : Result Select SynBad) × CallsFor tokens answer }
     ensures one { (tokens : List Token) (a b : Result Select SynBad) → CallsFor tokens a → CallsFor tokens b → a ≡ b }
-{
-}
+{}

@@ -9,9 +9,9 @@ use Rattle.pm_inputs.proofs.files.load_schema.Goals as goal
 pub returns-in-Ok-clause-called : goal.returns-in-Ok-clause-called
 returns-in-Ok-clause-called g c =
     told_read (g.F.Files.held c.args.files.now) role.Schema c.args.name.now text_limit (refusal.Schema too_long) (Refusing refusal.Schema SchemaText) c.in-Some.bytes.items (Ok c.in-Ok.schema) (rw c.in-Some.is at c.in_ok-bytes.ensures.read)
-    (Ok c.in-Ok.schema, rw c.as_slice.ensures.value at c.in-Ok.ensures, refl)
+    (Ok c.in-Ok.schema, rw c.as_slice.ensures.value at c.in-Ok.ensures.called, refl)
 
 pub returns-in-Err-Fault-clause-called : goal.returns-in-Err-Fault-clause-called
 returns-in-Err-Fault-clause-called g c =
     told_read (g.F.Files.held c.args.files.now) role.Schema c.args.name.now text_limit (refusal.Schema too_long) (Refusing refusal.Schema SchemaText) c.in-Some.bytes.items (Err (refusal.Schema _)) (rw c.in-Some.is at c.in_ok-bytes.ensures.read)
-    (Err _, rw (← c.in-Err-Fault.fault-is, c.as_slice.ensures.value) at (rw c.in-Err-Fault.field-0-is at c.in-Err-Fault.ensures), refl)
+    (Err _, rw (← c.in-Err-Fault.fault-is, c.as_slice.ensures.value) at (rw c.in-Err-Fault.field-0-is at c.in-Err-Fault.ensures.called), refl)
