@@ -7,7 +7,7 @@ use Rattle.pm_lexer.specs.declared.token.TokenKind.{TokenKind}
 use Rattle.pm_lexer.specs.declared.token.TokenKind.TheVariants as kind
 use Rattle.pm_lexer.specs.Pieces.{whole_len, decimals_len, content_at}
 use Rattle.pm_lexer.specs.Symbol.{reserved_word}
-use Rattle.pm_canonical.specs.Canon.{is_plain}
+use Rattle.pm_lexer.specs.Quoting.{is_plain}
 use Rattle.pm_canonical.proofs.Valid.{Every}
 
 -- a name that needs no quotes, and one that may stand between them

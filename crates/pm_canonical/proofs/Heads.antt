@@ -14,7 +14,7 @@ use Rattle.pm_lexer.specs.Byte.{is_blank, is_letter, is_word}
 use Rattle.pm_lexer.specs.Pieces.{whole_len, decimals_len, number_len, single_quotes}
 use Rattle.pm_lexer.specs.Symbol.{reserved_word}
 use Rattle.pm_lexer.specs.Head.{name_at, number_at, named_at, quoted_at, text_at, head_of}
-use Rattle.pm_canonical.specs.Canon.{doubled, quoted}
+use Rattle.pm_lexer.specs.Quoting.{doubled, quoted}
 use Rattle.pm_canonical.proofs.Valid.{Every}
 use Rattle.pm_canonical.proofs.Runs.{Follows, run_whole, follows_weaker, all_head}
 use Rattle.pm_canonical.proofs.Quoting.{other_than, quotation_doubled, single_doubled, all_doubled}

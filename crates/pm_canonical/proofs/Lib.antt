@@ -1,5 +1,4 @@
 pub mod Combinators
-pub mod Doubling
 pub mod Folds
 pub mod Formed
 pub mod Forming

@@ -14,7 +14,8 @@ use Rattle.pm_syntax.specs.declared.tree.Expr.{Expr}
 use Rattle.pm_syntax.specs.declared.tree.Expr.TheVariants as expr
 use Rattle.pm_syntax.specs.Terminals.{named, func_of, func_of_kind, func_named}
 use Rattle.pm_syntax.specs.Grammar.{IsName, IsColumn, counts, is_count, IsCountAll, IsCall, IsExpr, IsGiven}
-use Rattle.pm_canonical.specs.Canon.{quoted, is_plain, canon_func}
+use Rattle.pm_lexer.specs.Quoting.{quoted, is_plain}
+use Rattle.pm_canonical.specs.Canon.{canon_func}
 use Rattle.pm_canonical.proofs.Shapes.{Shape, shape_of, sign, word, shape_name, shapes_alias, shapes_column, shape_func, shapes_expr, shapes_given}
 use Rattle.pm_canonical.specs.Same.{unplaced_option, unplaced_name, unplaced_column, unplaced_expr}
 use Rattle.pm_canonical.proofs.Combinators.{Reading, pure, mapped, left, right, bind, behind, token, symbol_token, Stands}

@@ -15,7 +15,8 @@ use Rattle.pm_syntax.specs.declared.tree.Atom.{Atom}
 use Rattle.pm_syntax.specs.declared.tree.Atom.TheVariants as atom
 use Rattle.pm_syntax.specs.Terminals.{magnitude, magnitude_of}
 use Rattle.pm_syntax.specs.Grammar.{IsLiteral, IsTerm, IsOperand}
-use Rattle.pm_canonical.specs.Canon.{quoted, padded}
+use Rattle.pm_lexer.specs.Quoting.{quoted}
+use Rattle.pm_canonical.specs.Canon.{padded}
 use Rattle.pm_canonical.proofs.Shapes.{Shape, shape_of, sign, word, shape_digits, shapes_number, shapes_expr, shapes_literal, shapes_atom}
 use Rattle.pm_canonical.specs.Same.{unplaced_expr, unplaced_atom}
 use Rattle.pm_canonical.proofs.Valid.{ValidNumber, ValidLiteral, ValidTerm, ValidAtom}

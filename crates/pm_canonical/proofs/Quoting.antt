@@ -5,7 +5,7 @@ use Rattle.std.proofs.lemmas.Bool.{le-leb, not-true}
 use Rattle.std.proofs.Math.Seq.{take-append_seam}
 use Rattle.pm_lexer.specs.declared.token.TokenKind.TheVariants as kind
 use Rattle.pm_lexer.specs.Pieces.{longer, quotation, single_quotes, inside, content_at}
-use Rattle.pm_canonical.specs.Canon.{doubled, quoted}
+use Rattle.pm_lexer.specs.Quoting.{doubled, quoted}
 use Rattle.pm_canonical.proofs.Runs.{Follows, all_head, all_tail, all_both}
 
 -- the bytes before a closing quote, the quote, and what stands behind it

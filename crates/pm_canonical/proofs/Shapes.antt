@@ -27,7 +27,8 @@ use Rattle.pm_syntax.specs.declared.tree.Test.TheOpen.{Test-F}
 use Rattle.pm_syntax.specs.declared.tree.Test.TheOpen as layer
 use Rattle.pm_syntax.specs.declared.tree.OrderItem.{OrderItem}
 use Rattle.pm_syntax.specs.declared.tree.Select.{Select}
-use Rattle.pm_canonical.specs.Canon.{quoted, is_plain, canon_func, pointed, padded}
+use Rattle.pm_lexer.specs.Quoting.{quoted, is_plain}
+use Rattle.pm_canonical.specs.Canon.{canon_func, pointed, padded}
 
 -- what a token is, but for its place
 pub record Shape : Type 0 where

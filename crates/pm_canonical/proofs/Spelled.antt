@@ -21,7 +21,8 @@ use Rattle.pm_syntax.specs.declared.tree.Atom.{Atom}
 use Rattle.pm_syntax.specs.declared.tree.Atom.TheVariants as atom
 use Rattle.pm_syntax.specs.declared.tree.Comparison.{Comparison}
 use Rattle.pm_syntax.specs.declared.tree.Comparison.TheVariants as comparison
-use Rattle.pm_canonical.specs.Canon.{joined, quoted, is_plain, canon_name, canon_alias, canon_column, canon_func, canon_expr, pointed, padded, canon_number, canon_literal, canon_atom, canon_comparison}
+use Rattle.pm_lexer.specs.Quoting.{quoted, is_plain, canon_name}
+use Rattle.pm_canonical.specs.Canon.{joined, canon_alias, canon_column, canon_func, canon_expr, pointed, padded, canon_number, canon_literal, canon_atom, canon_comparison}
 use Rattle.pm_canonical.proofs.Shapes.{Shape, sign, between, shape_name, shapes_alias, shapes_column, shape_func, shapes_expr, shape_digits, shapes_number, shapes_literal, shapes_atom, shape_comparison}
 use Rattle.pm_canonical.proofs.Valid.{Every, Where, ValidName, ValidPlaced, ValidColumn, ValidExpr, ValidNumber, ValidLiteral, ValidTerm, ValidAtom}
 use Rattle.pm_canonical.proofs.Runs.{Follows, all_head}

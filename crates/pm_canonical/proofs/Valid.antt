@@ -17,7 +17,8 @@ use Rattle.pm_syntax.specs.declared.tree.Comparison.{Comparison}
 use Rattle.pm_syntax.specs.declared.tree.Test.{Test}
 use Rattle.pm_syntax.specs.declared.tree.Test.TheVariants as test
 use Rattle.pm_syntax.specs.declared.tree.Select.{Select}
-use Rattle.pm_canonical.specs.Canon.{is_plain, padded}
+use Rattle.pm_lexer.specs.Quoting.{is_plain}
+use Rattle.pm_canonical.specs.Canon.{padded}
 
 -- P holds of each
 abbrev pub Every : {A : Type 0} → (A → Type 0) → List A → Type 0

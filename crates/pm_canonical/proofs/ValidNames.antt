@@ -13,7 +13,7 @@ use Rattle.pm_lexer.specs.declared.symbol.TheConstants.{RESERVED, SIGNS}
 use Rattle.pm_lexer.specs.Symbol.{is, symbol_of, symbol_at, same_symbol, reserved_word, canonical_sign, spelling}
 use Rattle.pm_lexer.specs.Pieces.{content_at, decimals_len}
 use Rattle.pm_syntax.specs.Terminals.{named, magnitude, magnitude_of}
-use Rattle.pm_canonical.specs.Canon.{is_plain}
+use Rattle.pm_lexer.specs.Quoting.{is_plain}
 use Rattle.pm_canonical.proofs.Valid.{ValidName, ValidPlaced, ValidNumber}
 use Rattle.pm_canonical.proofs.Formed.{IsFormed, IsFormedAt, IsNumber}
 use Rattle.pm_canonical.proofs.Runs.{all_both}

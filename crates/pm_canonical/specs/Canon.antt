@@ -1,8 +1,7 @@
 -- The canonical text of a statement.
 use Rattle.std.specs.Prelude.{ℕ, ℤ, Bool, true, false, not, ◌==◌, ◌&&◌, ◌-◌, ◌+◌, List, [], ◌∷◌, ◌++◌, Option, Some, None, if◌then◌else◌, codes, is_some, length, take, drop, map, replicate, decimal, unsigned_abs, int_lt, pos}
 use Rattle.std.specs.List.{flat_map, list_all}
-use Rattle.pm_lexer.specs.Byte.{is_letter, is_word}
-use Rattle.pm_lexer.specs.Symbol.{reserved_word}
+use Rattle.pm_lexer.specs.Quoting.{quoted, canon_name}
 use Rattle.pm_syntax.specs.declared.tree.PlacedName.{PlacedName}
 use Rattle.pm_syntax.specs.declared.tree.ColumnName.{ColumnName}
 use Rattle.pm_syntax.specs.declared.tree.Func.{Func}
@@ -34,22 +33,6 @@ joined sep (piece ∷ next ∷ more) = piece ++ (sep ++ joined sep (next ∷ mor
 -- a piece behind so many others
 abbrev pub behind : List ℕ → ℕ → List ℕ → List ℕ
 behind sep n piece = if n == 0 then piece else sep ++ piece
-
--- each quote doubled, and the whole between quotes
-unfoldable pub doubled : ℕ → List ℕ → List ℕ
-doubled quote [] = []
-doubled quote (b ∷ rest) = if b == quote then b ∷ b ∷ doubled quote rest else b ∷ doubled quote rest
-
-abbrev pub quoted : ℕ → List ℕ → List ℕ
-quoted quote bytes = quote ∷ (doubled quote bytes ++ quote ∷ [])
-
--- a name that needs no quotes
-abbrev pub is_plain : List ℕ → Bool
-is_plain [] = false
-is_plain (b ∷ rest) = is_letter b && list_all is_word rest && not (is_some (reserved_word (b ∷ rest)))
-
-unfoldable pub canon_name : List ℕ → List ℕ
-canon_name name = if is_plain name then name else quoted 34 name
 
 abbrev pub canon_alias : Option PlacedName → List ℕ
 canon_alias None = []

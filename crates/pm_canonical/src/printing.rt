@@ -3,7 +3,8 @@ ghost use Rattle.std.specs.List.{flat_map};
 ghost use Rattle.pm_canonical.specs.Canon.{canon_literal, canon_atom, canon_given, canon_item, canon_items, canon_source, canon_further, canon_sources, canon_condition, canon_list, canon, canon_key, joined, behind, negation, canon_comparison, canon_test, text_of, member_of, separator, is_wrapped};
 
 use crate::numerals::put_number;
-use crate::words::{comparison_word, put_column, put_expr, put_name, put_quoted};
+use crate::words::{comparison_word, put_column, put_expr};
+use pm_lexer::{put_name, put_quoted};
 use pm_syntax::{
     Atom, ColumnName, Comparison, Item, Items, Literal, Literals, OrderItem, PlacedName, Select,
     Source, Test,
