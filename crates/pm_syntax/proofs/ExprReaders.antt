@@ -10,6 +10,7 @@ use Rattle.pm_lexer.specs.Language.{Gate, Is}
 use Rattle.pm_lexer.specs.Reading.{◌>>=◌, sees, token_at}
 use Rattle.pm_lexer.proofs.Phrases.{Phrase, Next, Reader, Nothing, NotOther, Began}
 use Rattle.pm_lexer.proofs.Readers.{Then, Or, Same, pure_reader, then_reader, same_reader, same_began, map_reader}
+use Rattle.pm_lexer.proofs.Firsts.{BeginsWith, bars, not_both}
 use Rattle.pm_lexer.proofs.Furthers.{choice_reader, behind_reader, optional_reader}
 use Rattle.pm_syntax.specs.declared.tree.PlacedName.{PlacedName}
 use Rattle.pm_syntax.specs.declared.tree.ColumnName.{ColumnName}
@@ -23,9 +24,9 @@ use Rattle.pm_syntax.specs.declared.tree.Atom.TheVariants as atom
 use Rattle.pm_syntax.specs.Terminals.{named, func_of, func_of_kind, magnitude}
 use Rattle.pm_syntax.specs.Grammar.{IsName, IsColumn, counts, is_count, IsCountAll, IsCall, IsExpr, IsLiteral, IsTerm, IsOperand}
 use Rattle.pm_syntax.specs.Reading.{name_at, column_behind, column_at, call_behind, expr_behind, expr_at, literal_at, term_at, operand_at}
-use Rattle.pm_syntax.proofs.Tokens.{two_symbols, sample, stands_name, stands_point, stands_open, stands_close, stands_star, stands_minus, stands_number, stands_text, stands_null, symbol_reader}
+use Rattle.pm_syntax.proofs.Tokens.{sample, stands_name, stands_point, stands_open, stands_close, stands_star, stands_minus, stands_number, stands_text, stands_null, symbol_reader}
 use Rattle.pm_syntax.proofs.Helpers.{token_began}
-use Rattle.pm_syntax.proofs.Sets.{AnyOf, Begins, widened, not_other, none_other, apart}
+use Rattle.pm_syntax.proofs.Sets.{AnyOf, widened, none_other, apart}
 
 pub name_reader : (S : Token → Type 0) (d : ℕ) → Reader S (λ _ _. IsName) d name_at
 unfolding name_at
@@ -72,7 +73,7 @@ CallsColumn f _ _ next = IsColumn (λ column. Is (is symbol.Close) (λ _. next (
 abbrev pub CallBehind : Token → Phrase Expr
 CallBehind f d g next ts = CallsColumn f d g next ts ⊎ ((counts f ≡ true) × CountsAll f d g next ts)
 
-calls_begins : (f : Token) → Begins (CallsColumn f) (λ t. is symbol.Name t ≡ true)
+calls_begins : (f : Token) → BeginsWith (CallsColumn f) (λ t. is symbol.Name t ≡ true)
 calls_begins f d g next [] h = h
 calls_begins f d g next (t ∷ ts) h = h.0
 
@@ -84,7 +85,7 @@ unfolding same_symbol
 calls_column_reader S f d =
     then_reader S PointOnly (λ _ _. IsColumn) (λ column _ _ next. Is (is symbol.Close) (λ _. next (expr.Call (unwrap_or (func_of f) func.Count) column f.at))) d column_at _ (column_reader PointOnly (λ t e. inl e) d)
     (λ column. symbol_reader S symbol.Close stands_close _ d _ (λ _. pure_reader S d (expr.Call (unwrap_or (func_of f) func.Count) column f.at)))
-    (λ a d' g next avoids t ts s h. elim s [ inl e ↦ two_symbols symbol.Point symbol.Close t refl e h.0 | inr none ↦ none ])
+    (λ a d' g next avoids t ts s h. elim s [ inl e ↦ not_both symbol.Point symbol.Close t refl e h.0 | inr none ↦ none ])
 
 call_reader : (S : Token → Type 0) (f : Token) (d : ℕ) → Reader S (CallBehind f) d (call_behind f)
 unfolding call_behind same_symbol
@@ -95,7 +96,7 @@ call_reader S f d =
       | true ↦ λ _. same_reader S (Or (CallsColumn f) (CountsAll f)) _ d _ (record { to = λ d g next ts h. elim h [ inl c ↦ inl c | inr a ↦ inr (refl, a) ]; from = λ d g next ts h. elim h [ inl c ↦ inl c | inr a ↦ inr a.1 ] })
           (behind_reader S (is symbol.Star) (sample symbol.Star) stands_star (λ _ _ next. Is (is symbol.Close) (λ _. next (expr.CountAll f.at))) (CallsColumn f) d _ _
           (symbol_reader S symbol.Close stands_close _ d _ (λ _. pure_reader S d (expr.CountAll f.at))) (calls_column_reader S f d)
-          (not_other S (CallsColumn f) (λ t. is symbol.Name t ≡ true) (is symbol.Star) (calls_begins f) (λ t e n. two_symbols symbol.Star symbol.Name t refl e n)))
+          (bars S (CallsColumn f) (λ t. is symbol.Name t ≡ true) (is symbol.Star) (calls_begins f) (λ t e n. not_both symbol.Star symbol.Name t refl e n)))
       | false ↦ λ _. same_reader S (CallsColumn f) _ d _ (record { to = λ d g next ts h. inl h; from = λ d g next ts h. elim h [ inl c ↦ c | inr a ↦ absurd (cc a.0) ] }) (calls_column_reader S f d)
     ] refl
 
@@ -126,7 +127,7 @@ expr_behind_reader S point paren first d =
     column_stops (t ∷ ts) e d' g next [] avoids heads h = heads
     column_stops (t ∷ ts) e d' g next (u ∷ us) avoids heads h =
         let here : is symbol.Open u ≡ true = rw (sym heads) at e in
-        elim h [ inl n ↦ avoids _ u us (paren u here) n | inr p ↦ two_symbols symbol.Open symbol.Point u refl here p.0 ]
+        elim h [ inl n ↦ avoids _ u us (paren u here) n | inr p ↦ not_both symbol.Open symbol.Point u refl here p.0 ]
 
 -- expr = column | COUNT "(" "*" ")" | func "(" column ")"
 expr_to : (d : ℕ) (g : Gate) (next : Next Expr) (ts : List Token) → Then (λ _ _. Is (is symbol.Name)) ExprBehind d g next ts → IsExpr next ts
@@ -164,7 +165,7 @@ expr_reader S point paren d =
     same_reader S (Then (λ _ _. Is (is symbol.Name)) ExprBehind) _ d _ (record { to = expr_to; from = expr_from })
     (symbol_reader S symbol.Name stands_name _ d _ (λ first. expr_behind_reader S point paren first d))
 
-pub expr_begins : Begins (λ _ _. IsExpr) (λ t. is symbol.Name t ≡ true)
+pub expr_begins : BeginsWith (λ _ _. IsExpr) (λ t. is symbol.Name t ≡ true)
 expr_begins d g next [] h = elim h [ inl c ↦ c | inr o ↦ elim o [ inl a ↦ a | inr c ↦ c ] ]
 expr_begins d g next (t ∷ ts) h = elim h [ inl c ↦ c.0 | inr o ↦ elim o [ inl a ↦ func_is_name t (counts_is_func t a.0) | inr c ↦ func_is_name t c.0 ] ]
 
@@ -202,19 +203,19 @@ literal_same = record {
   ];
 }
 
-plain_begins : Begins Plain (AnyOf (symbol.Number ∷ []))
+plain_begins : BeginsWith Plain (AnyOf (symbol.Number ∷ []))
 plain_begins d g next [] h = h
 plain_begins d g next (t ∷ ts) h = inl h.0
 
-null_or_begins : Begins NullOr (AnyOf (symbol.Number ∷ symbol.Null ∷ []))
+null_or_begins : BeginsWith NullOr (AnyOf (symbol.Number ∷ symbol.Null ∷ []))
 null_or_begins d g next [] h = elim h [ inl p ↦ p | inr n ↦ n ]
 null_or_begins d g next (t ∷ ts) h = elim h [ inl p ↦ inl p.0 | inr n ↦ inr (inl n.0) ]
 
-texts_begins : Begins Texts (AnyOf (symbol.Text ∷ []))
+texts_begins : BeginsWith Texts (AnyOf (symbol.Text ∷ []))
 texts_begins d g next [] h = h
 texts_begins d g next (t ∷ ts) h = inl h.0
 
-text_or_begins : Begins TextOr (AnyOf (symbol.Text ∷ symbol.Number ∷ symbol.Null ∷ []))
+text_or_begins : BeginsWith TextOr (AnyOf (symbol.Text ∷ symbol.Number ∷ symbol.Null ∷ []))
 text_or_begins d g next [] h = elim h [ inl x ↦ x | inr r ↦ elim r [ inl p ↦ p | inr n ↦ n ] ]
 text_or_begins d g next (t ∷ ts) h = elim h [ inl x ↦ inl x.0 | inr r ↦ elim r [ inl p ↦ inr (inl p.0) | inr n ↦ inr (inr (inl n.0)) ] ]
 
@@ -222,7 +223,7 @@ text_or_begins d g next (t ∷ ts) h = elim h [ inl x ↦ inl x.0 | inr r ↦ el
 abbrev pub LiteralFirst : Token → Type 0
 LiteralFirst = AnyOf (symbol.Minus ∷ symbol.Text ∷ symbol.Null ∷ symbol.Number ∷ [])
 
-pub literal_begins : Begins (λ _ _. IsLiteral) LiteralFirst
+pub literal_begins : BeginsWith (λ _ _. IsLiteral) LiteralFirst
 literal_begins d g next [] h = elim h [ inl p ↦ p | inr r ↦ elim r [ inl n ↦ n | inr m ↦ elim m [ inl x ↦ x | inr u ↦ u ] ] ]
 literal_begins d g next (t ∷ ts) h = elim h [ inl p ↦ inr (inr (inr (inl p.0))) | inr r ↦ elim r [ inl n ↦ inl n.0 | inr m ↦ elim m [ inl x ↦ inr (inl x.0) | inr u ↦ inr (inr (inl u.0)) ] ] ]
 
@@ -236,13 +237,13 @@ literal_reader S d =
     let texts : Reader S Texts d (λ ts. token_at (is symbol.Text) ts >>= λ text. Ok (literal.Text (content_of text.0), text.1)) =
     symbol_reader S symbol.Text stands_text _ d _ (λ text. pure_reader S d (literal.Text (content_of text))) in
     let null_or = behind_reader S (is symbol.Null) (sample symbol.Null) stands_null Nulls Plain d (λ r. Ok (literal.Null, r)) _ (pure_reader S d literal.Null) plain
-    (not_other S Plain (AnyOf (symbol.Number ∷ [])) (is symbol.Null) plain_begins (λ t e h. apart symbol.Null (symbol.Number ∷ []) refl t e h)) in
+    (bars S Plain (AnyOf (symbol.Number ∷ [])) (is symbol.Null) plain_begins (λ t e h. apart symbol.Null (symbol.Number ∷ []) refl t e h)) in
     let text_or = choice_reader S Texts NullOr (is symbol.Text) d _ _ texts null_or
-    (not_other S NullOr (AnyOf (symbol.Number ∷ symbol.Null ∷ [])) (is symbol.Text) null_or_begins (λ t e h. apart symbol.Text (symbol.Number ∷ symbol.Null ∷ []) refl t e h))
+    (bars S NullOr (AnyOf (symbol.Number ∷ symbol.Null ∷ [])) (is symbol.Text) null_or_begins (λ t e h. apart symbol.Text (symbol.Number ∷ symbol.Null ∷ []) refl t e h))
     (none_other S Texts (AnyOf (symbol.Text ∷ [])) (is symbol.Text) texts_begins (λ t h. elim h [ inl e ↦ e | inr none ↦ absurd none ])) in
     same_reader S MinusOr (λ _ _. IsLiteral) d _ literal_same
     (behind_reader S (is symbol.Minus) (sample symbol.Minus) stands_minus Negative TextOr d _ _ negative text_or
-    (not_other S TextOr (AnyOf (symbol.Text ∷ symbol.Number ∷ symbol.Null ∷ [])) (is symbol.Minus) text_or_begins (λ t e h. apart symbol.Minus (symbol.Text ∷ symbol.Number ∷ symbol.Null ∷ []) refl t e h)))
+    (bars S TextOr (AnyOf (symbol.Text ∷ symbol.Number ∷ symbol.Null ∷ [])) (is symbol.Minus) text_or_begins (λ t e h. apart symbol.Minus (symbol.Text ∷ symbol.Number ∷ symbol.Null ∷ []) refl t e h)))
 
 -- operand = expr | literal
 pub term_reader : (S : Token → Type 0) → ((t : Token) → is symbol.Point t ≡ true → S t) → ((t : Token) → is symbol.Open t ≡ true → S t) → (grouped : Bool) (d : ℕ) → Reader S (λ _ _. IsTerm grouped) d (term_at grouped)
@@ -250,7 +251,7 @@ unfolding term_at
 term_reader S point paren true d = expr_reader S point paren d
 term_reader S point paren false d = map_reader S (λ _ _. IsColumn) (λ column. expr.Column column) d column_at (column_reader S point d)
 
-term_begins : (grouped : Bool) → Begins (λ _ _. IsTerm grouped) (λ t. is symbol.Name t ≡ true)
+term_begins : (grouped : Bool) → BeginsWith (λ _ _. IsTerm grouped) (λ t. is symbol.Name t ≡ true)
 term_begins true d g next w h = expr_begins d g next w h
 term_begins false d g next [] h = h
 term_begins false d g next (t ∷ ts) h = h.0
@@ -261,10 +262,10 @@ Termed grouped _ _ next = IsTerm grouped (λ e. next (atom.Expr e))
 abbrev pub Literals : Phrase Atom
 Literals _ _ next = IsLiteral (λ l. next (atom.Literal l))
 
-termed_begins : (grouped : Bool) → Begins (Termed grouped) (λ t. is symbol.Name t ≡ true)
+termed_begins : (grouped : Bool) → BeginsWith (Termed grouped) (λ t. is symbol.Name t ≡ true)
 termed_begins grouped d g next w h = term_begins grouped d g (λ e. next (atom.Expr e)) w h
 
-literals_begin : Begins Literals LiteralFirst
+literals_begin : BeginsWith Literals LiteralFirst
 literals_begin d g next w h = literal_begins d g (λ l. next (atom.Literal l)) w h
 
 pub operand_reader : (S : Token → Type 0) → ((t : Token) → is symbol.Point t ≡ true → S t) → ((t : Token) → is symbol.Open t ≡ true → S t) → (grouped : Bool) (d : ℕ) → Reader S (λ _ _. IsOperand grouped) d (operand_at grouped)
@@ -273,14 +274,14 @@ operand_reader S point paren grouped d =
     choice_reader S (Termed grouped) Literals (is symbol.Name) d _ _
     (map_reader S (λ _ _. IsTerm grouped) (λ e. atom.Expr e) d (term_at grouped) (term_reader S point paren grouped d))
     (map_reader S (λ _ _. IsLiteral) (λ l. atom.Literal l) d literal_at (literal_reader S d))
-    (not_other S Literals LiteralFirst (is symbol.Name) literals_begin (λ t e h. apart symbol.Name (symbol.Minus ∷ symbol.Text ∷ symbol.Null ∷ symbol.Number ∷ []) refl t e h))
+    (bars S Literals LiteralFirst (is symbol.Name) literals_begin (λ t e h. apart symbol.Name (symbol.Minus ∷ symbol.Text ∷ symbol.Null ∷ symbol.Number ∷ []) refl t e h))
     (none_other S (Termed grouped) (λ t. is symbol.Name t ≡ true) (is symbol.Name) (termed_begins grouped) (λ t e. e))
 
 -- the tokens that begin an operand
 abbrev pub OperandFirst : Token → Type 0
 OperandFirst = AnyOf (symbol.Name ∷ symbol.Minus ∷ symbol.Text ∷ symbol.Null ∷ symbol.Number ∷ [])
 
-pub operand_begins : (grouped : Bool) → Begins (λ _ _. IsOperand grouped) OperandFirst
+pub operand_begins : (grouped : Bool) → BeginsWith (λ _ _. IsOperand grouped) OperandFirst
 operand_begins grouped d g next w h = elim h [
   | inl e ↦ widened (λ t. is symbol.Name t ≡ true) OperandFirst (λ t n. inl n) w (termed_begins grouped d g next w e)
   | inr l ↦ widened LiteralFirst OperandFirst (λ t n. inr n) w (literals_begin d g next w l)

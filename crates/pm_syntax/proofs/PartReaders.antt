@@ -8,13 +8,14 @@ use Rattle.pm_lexer.specs.Reading.{Stop, expected, too_deep, Read, ◌>>=◌, pl
 use Rattle.pm_lexer.proofs.Phrases.{Phrase, Next, Avoids, Reader, Law, NotOther, Able, Began, Fault, GoesOn, deeper}
 use Rattle.pm_lexer.proofs.Readers.{Then, Or, Same, Under, pure_reader, then_reader, then_began, same_reader, same_began, same_law, first_law, map_reader, first_began, second_began, under_reader, under_began, first_fault, not_seen}
 use Rattle.pm_lexer.proofs.Lists.{Peek}
+use Rattle.pm_lexer.proofs.Firsts.{BeginsWith, bars}
 use Rattle.pm_lexer.proofs.Furthers.{behind_reader, list_reader}
 use Rattle.pm_syntax.specs.declared.tree.Test.{Test}
 use Rattle.pm_syntax.specs.declared.tree.Test.TheVariants as test
 use Rattle.pm_syntax.specs.Grammar.{all_of, any_of, IsPartAnd, IsCond, IsPart}
 use Rattle.pm_syntax.specs.Reading.{test_at, begins_test, opens, ands_at, cond_at, part_peek, part_at, condition_at}
 use Rattle.pm_syntax.proofs.Tokens.{sample, stands_not, stands_open, stands_close, stands_and, stands_or, symbol_reader}
-use Rattle.pm_syntax.proofs.Sets.{AnyOf, Begins, widened, not_other, apart, within}
+use Rattle.pm_syntax.proofs.Sets.{AnyOf, widened, apart, within}
 use Rattle.pm_syntax.proofs.Parts.{no_not, no_open}
 use Rattle.pm_syntax.proofs.Helpers.{token_began, then_peek}
 use Rattle.pm_syntax.proofs.ExprReaders.{OperandFirst}
@@ -77,7 +78,7 @@ PartFirst = AnyOf (symbol.Not ∷ symbol.Open ∷ symbol.Name ∷ symbol.Minus �
 operand_in_part : (t : Token) → OperandFirst t → PartFirst t
 operand_in_part t h = inr (inr h)
 
-part_begins : (grouped : Bool) → Begins (Part grouped) PartFirst
+part_begins : (grouped : Bool) → BeginsWith (Part grouped) PartFirst
 unfolding IsPart
 part_begins grouped zero g next w h = widened OperandFirst PartFirst operand_in_part w (test_begins grouped zero g next w h)
 part_begins grouped (suc d) g next [] h = elim h [ inl n ↦ n | inr o ↦ elim o [ inl p ↦ p | inr t ↦ test_begins grouped (suc d) g next [] t ] ]
@@ -108,7 +109,7 @@ no_operand t o h = elim (either (is symbol.Not t) (is symbol.Open t) o) [
 ]
 
 no_test : (S : Token → Type 0) (grouped : Bool) (ts : List Token) → sees opens ts ≡ true → NotOther S (Tests grouped) ts
-no_test S grouped ts e = not_other S (Tests grouped) OperandFirst opens (test_begins grouped) no_operand ts e
+no_test S grouped ts e = bars S (Tests grouped) OperandFirst opens (test_begins grouped) no_operand ts e
 
 -- the 33rd open parenthesis or NOT
 deep_fault : (S : Token → Type 0) (grouped : Bool) (ts : List Token) → sees opens ts ≡ true → Fault S (Part grouped) 0 [] ts (too_deep (place_of ts))
@@ -231,7 +232,7 @@ conds_reader grouped d r =
     (λ t s. within (symbol.Point ∷ symbol.Open ∷ symbol.And ∷ []) (symbol.Point ∷ symbol.Open ∷ symbol.And ∷ symbol.Or ∷ []) refl t s))
 
 -- part = NOT part | "(" cond ")" | test
-paren_or_begins : (grouped : Bool) → Begins (ParenOr grouped) (AnyOf (symbol.Open ∷ symbol.Name ∷ symbol.Minus ∷ symbol.Text ∷ symbol.Null ∷ symbol.Number ∷ []))
+paren_or_begins : (grouped : Bool) → BeginsWith (ParenOr grouped) (AnyOf (symbol.Open ∷ symbol.Name ∷ symbol.Minus ∷ symbol.Text ∷ symbol.Null ∷ symbol.Number ∷ []))
 paren_or_begins grouped d g next [] h = elim h [ inl t ↦ test_begins grouped d g next [] t | inr p ↦ p ]
 paren_or_begins grouped d g next (t ∷ ts) h = elim h [ inl q ↦ inr (test_begins grouped d g next (t ∷ ts) q) | inr p ↦ inl p.0 ]
 
@@ -262,8 +263,8 @@ part_reader grouped (suc d) =
     (under_reader OperandEnds (NotPart grouped) d _ (map_reader OperandEnds (Part grouped) (λ part. test.Not part) d (part_at grouped d) r))
     (behind_reader OperandEnds (is symbol.Open) (sample symbol.Open) stands_open (Under (Inner grouped)) (Tests grouped) (suc d) _ (test_at grouped)
     (under_reader OperandEnds (Inner grouped) d _ (inner_reader grouped d r)) (test_reader OperandEnds (λ t e. e) grouped (suc d))
-    (not_other OperandEnds (Tests grouped) OperandFirst (is symbol.Open) (test_begins grouped) (λ t e h. apart symbol.Open (symbol.Name ∷ symbol.Minus ∷ symbol.Text ∷ symbol.Null ∷ symbol.Number ∷ []) refl t e h)))
-    (not_other OperandEnds (ParenOr grouped) (AnyOf (symbol.Open ∷ symbol.Name ∷ symbol.Minus ∷ symbol.Text ∷ symbol.Null ∷ symbol.Number ∷ [])) (is symbol.Not) (paren_or_begins grouped)
+    (bars OperandEnds (Tests grouped) OperandFirst (is symbol.Open) (test_begins grouped) (λ t e h. apart symbol.Open (symbol.Name ∷ symbol.Minus ∷ symbol.Text ∷ symbol.Null ∷ symbol.Number ∷ []) refl t e h)))
+    (bars OperandEnds (ParenOr grouped) (AnyOf (symbol.Open ∷ symbol.Name ∷ symbol.Minus ∷ symbol.Text ∷ symbol.Null ∷ symbol.Number ∷ [])) (is symbol.Not) (paren_or_begins grouped)
     (λ t e h. apart symbol.Not (symbol.Open ∷ symbol.Name ∷ symbol.Minus ∷ symbol.Text ∷ symbol.Null ∷ symbol.Number ∷ []) refl t e h)))
 
 -- a condition

@@ -9,6 +9,7 @@ use Rattle.pm_lexer.specs.Reading.{Read, ◌>>=◌, token_at, list_at, more_at}
 use Rattle.pm_lexer.proofs.Phrases.{Phrase, Next, Avoids, Reader, Nothing, NotOther, Able, Began}
 use Rattle.pm_lexer.proofs.Readers.{Then, Or, pure_reader, then_law, then_reader, then_began, same_reader, map_reader, wider_reader}
 use Rattle.pm_lexer.proofs.Lists.{Peek, Further, further_able, more_clear}
+use Rattle.pm_lexer.proofs.Firsts.{BeginsWith, bars, not_both}
 use Rattle.pm_lexer.proofs.Furthers.{Parts, further_law, choice_reader, behind_reader, optional_reader, list_reader, token_peek}
 use Rattle.pm_syntax.specs.declared.tree.PlacedName.{PlacedName}
 use Rattle.pm_syntax.specs.declared.tree.ColumnName.{ColumnName}
@@ -23,8 +24,8 @@ use Rattle.pm_syntax.specs.declared.tree.Select.{Select}
 use Rattle.pm_syntax.specs.Terminals.{named}
 use Rattle.pm_syntax.specs.Grammar.{IsName, IsColumn, IsExpr, IsOptional, IsCondition, IsGiven, IsItem, IsItems, IsJoin, IsOn, IsSource, IsSources, IsFilter, IsGroups, IsHaving, IsDirection, IsKey, IsOrders, IsSelect}
 use Rattle.pm_syntax.specs.Reading.{name_at, column_at, expr_at, optional_at, condition_at, given_at, item_at, items_at, joins, join_at, on_at, source_at, sources_at, where_at, having_at, groups_at, direction_at, key_at, orders_at, select_at}
-use Rattle.pm_syntax.proofs.Tokens.{two_symbols, sample, stands_select, stands_distinct, stands_from, stands_join, stands_inner, stands_on, stands_where, stands_group, stands_by, stands_having, stands_order, stands_asc, stands_desc, stands_as, stands_comma, stands_star, stands_semicolon, stands_end, symbol_reader}
-use Rattle.pm_syntax.proofs.Sets.{AnyOf, Begins, widened, not_other, none_other, none_stops, apart, within, disjoint}
+use Rattle.pm_syntax.proofs.Tokens.{sample, stands_select, stands_distinct, stands_from, stands_join, stands_inner, stands_on, stands_where, stands_group, stands_by, stands_having, stands_order, stands_asc, stands_desc, stands_as, stands_comma, stands_star, stands_semicolon, stands_end, symbol_reader}
+use Rattle.pm_syntax.proofs.Sets.{AnyOf, widened, none_other, none_stops, apart, within, disjoint}
 use Rattle.pm_syntax.proofs.Helpers.{maybe_reader}
 use Rattle.pm_syntax.proofs.ExprReaders.{name_reader, column_reader, column_began, expr_reader, expr_begins, expr_began}
 use Rattle.pm_syntax.proofs.PartReaders.{Conds, CondEnds, condition_reader}
@@ -40,7 +41,7 @@ Named _ _ next = IsName (λ name. next (Some name))
 abbrev Unnamed : Phrase (Option PlacedName)
 Unnamed _ _ next = next None
 
-named_begins : Begins Named (λ t. is symbol.Name t ≡ true)
+named_begins : BeginsWith Named (λ t. is symbol.Name t ≡ true)
 named_begins d g next [] h = h
 named_begins d g next (t ∷ ts) h = h.0
 
@@ -56,11 +57,11 @@ given_reader S nameS asS d =
     (behind_reader S (is symbol.As) (sample symbol.As) stands_as Named (Or Named Unnamed) d _ _ names
     (choice_reader S Named Unnamed (is symbol.Name) d _ (λ ts. Ok (None, ts)) names (pure_reader S d None) (none_stops S (is symbol.Name) None nameS)
     (none_other S Named (λ t. is symbol.Name t ≡ true) (is symbol.Name) named_begins (λ t e. e)))
-    (λ ts e. or_other S Named Unnamed ts (not_other S Named (λ t. is symbol.Name t ≡ true) (is symbol.As) named_begins (λ t a n. two_symbols symbol.As symbol.Name t refl a n) ts e) (none_stops S (is symbol.As) None asS ts e)))
+    (λ ts e. or_other S Named Unnamed ts (bars S Named (λ t. is symbol.Name t ≡ true) (is symbol.As) named_begins (λ t a n. not_both symbol.As symbol.Name t refl a n) ts e) (none_stops S (is symbol.As) None asS ts e)))
 
 -- what given names and their words say of a token that begins nothing of them
 given_not : (s : Symbol) → same_symbol s symbol.Name ≡ false → same_symbol s symbol.As ≡ false → (next : Next (Option PlacedName)) (t : Token) (ts : List Token) → is s t ≡ true → (next None (t ∷ ts) → ⊥) → IsGiven next (t ∷ ts) → ⊥
-given_not s n a next t ts e none h = elim h [ inl u ↦ none u | inr o ↦ elim o [ inl m ↦ two_symbols s symbol.Name t n e m.0 | inr b ↦ two_symbols s symbol.As t a e b.0 ] ]
+given_not s n a next t ts e none h = elim h [ inl u ↦ none u | inr o ↦ elim o [ inl m ↦ not_both s symbol.Name t n e m.0 | inr b ↦ not_both s symbol.As t a e b.0 ] ]
 
 -- item = expr [ [ AS ] name ]
 abbrev ExprEnds : Token → Type 0
@@ -88,7 +89,7 @@ item_reader d =
     (λ e. map_reader ItemEnds (λ _ _. IsGiven) (λ given. record { expr = e; given = given }) d given_at (given_reader ItemEnds (λ t n. inr (inr (inl n))) (λ t a. inr (inr (inr (inl a)))) d))
     (λ a d' g next avoids t ts s h. item_clear a next avoids t ts s h)
 
-item_begins : Begins (λ _ _. IsItem) (λ t. is symbol.Name t ≡ true)
+item_begins : BeginsWith (λ _ _. IsItem) (λ t. is symbol.Name t ≡ true)
 item_begins d g next w h = expr_begins d g (λ e. IsGiven (λ given. next (record { expr = e; given = given }))) w h
 
 given_able : {A : Type 0} (f : Option PlacedName → A) (d : ℕ) → Able (λ _ _ next. IsGiven (λ given. next (f given))) d
@@ -107,10 +108,10 @@ Stars _ _ next = Is (is symbol.Star) (λ star. next (items.All star.at))
 abbrev Listed : Phrase Items
 Listed _ g next = IsList g 64 IsItem (is symbol.Comma) (λ list. next (items.List list))
 
-listed_begins : Begins Listed (λ t. is symbol.Name t ≡ true)
+listed_begins : BeginsWith Listed (λ t. is symbol.Name t ≡ true)
 listed_begins d g next w h = item_begins d g (λ a. IsFurther g 64 (Is (is symbol.Comma)) (λ _. IsItem) (a ∷ []) (λ list. next (items.List list))) w h
 
-stars_begin : Begins Stars (λ t. is symbol.Star t ≡ true)
+stars_begin : BeginsWith Stars (λ t. is symbol.Star t ≡ true)
 stars_begin d g next [] h = h
 stars_begin d g next (t ∷ ts) h = h.0
 
@@ -123,7 +124,7 @@ items_reader d =
     (list_reader ItemsEnds ItemEnds (λ _ _. IsItem) (is symbol.Comma) (sample symbol.Comma) stands_comma (token_at (is symbol.Name)) 64 d item_at (item_reader d) (item_look d)
     (λ t e. inr (inr (inr (inr (inl e))))) (λ t s e. apart symbol.Comma (symbol.Point ∷ symbol.Open ∷ symbol.Name ∷ symbol.As ∷ []) refl t e s)
     (λ t s. within (symbol.Point ∷ symbol.Open ∷ symbol.Name ∷ symbol.As ∷ []) (symbol.Point ∷ symbol.Open ∷ symbol.Name ∷ symbol.As ∷ symbol.Comma ∷ []) refl t s)))
-    (not_other ItemsEnds Listed (λ t. is symbol.Name t ≡ true) (is symbol.Star) listed_begins (λ t e n. two_symbols symbol.Star symbol.Name t refl e n))
+    (bars ItemsEnds Listed (λ t. is symbol.Name t ≡ true) (is symbol.Star) listed_begins (λ t e n. not_both symbol.Star symbol.Name t refl e n))
     (none_other ItemsEnds Stars (λ t. is symbol.Star t ≡ true) (is symbol.Star) stars_begin (λ t e. e))
 
 -- "," | [ INNER ] JOIN
@@ -133,11 +134,11 @@ Joined _ _ next = Is (is symbol.Join) (λ _. next true)
 abbrev JoinedOr : Phrase Bool
 JoinedOr = Or Joined (Then (λ _ _. Is (is symbol.Inner)) (λ _. Joined))
 
-joined_begins : Begins Joined (λ t. is symbol.Join t ≡ true)
+joined_begins : BeginsWith Joined (λ t. is symbol.Join t ≡ true)
 joined_begins d g next [] h = h
 joined_begins d g next (t ∷ ts) h = h.0
 
-joined_or_begins : Begins JoinedOr (AnyOf (symbol.Join ∷ symbol.Inner ∷ []))
+joined_or_begins : BeginsWith JoinedOr (AnyOf (symbol.Join ∷ symbol.Inner ∷ []))
 joined_or_begins d g next [] h = elim h [ inl j ↦ j | inr i ↦ i ]
 joined_or_begins d g next (t ∷ ts) h = elim h [ inl j ↦ inl j.0 | inr i ↦ inr (inl i.0) ]
 
@@ -152,10 +153,10 @@ join_reader S d =
     })
     (behind_reader S (is symbol.Comma) (sample symbol.Comma) stands_comma (λ _ _ next. next false) JoinedOr d (λ r. Ok (false, r)) _ (pure_reader S d false)
     (behind_reader S (is symbol.Inner) (sample symbol.Inner) stands_inner Joined Joined d _ _ joined joined
-    (not_other S Joined (λ t. is symbol.Join t ≡ true) (is symbol.Inner) joined_begins (λ t e j. two_symbols symbol.Inner symbol.Join t refl e j)))
-    (not_other S JoinedOr (AnyOf (symbol.Join ∷ symbol.Inner ∷ [])) (is symbol.Comma) joined_or_begins (λ t e h. apart symbol.Comma (symbol.Join ∷ symbol.Inner ∷ []) refl t e h)))
+    (bars S Joined (λ t. is symbol.Join t ≡ true) (is symbol.Inner) joined_begins (λ t e j. not_both symbol.Inner symbol.Join t refl e j)))
+    (bars S JoinedOr (AnyOf (symbol.Join ∷ symbol.Inner ∷ [])) (is symbol.Comma) joined_or_begins (λ t e h. apart symbol.Comma (symbol.Join ∷ symbol.Inner ∷ []) refl t e h)))
 
-join_begins : Begins (λ _ _. IsJoin) (AnyOf (symbol.Comma ∷ symbol.Join ∷ symbol.Inner ∷ []))
+join_begins : BeginsWith (λ _ _. IsJoin) (AnyOf (symbol.Comma ∷ symbol.Join ∷ symbol.Inner ∷ []))
 join_begins d g next [] h = elim h [ inl c ↦ c | inr o ↦ elim o [ inl j ↦ j | inr i ↦ i ] ]
 join_begins d g next (t ∷ ts) h = elim h [ inl c ↦ inl c.0 | inr o ↦ elim o [ inl j ↦ inr (inl j.0) | inr i ↦ inr (inr (inl i.0)) ] ]
 
@@ -213,7 +214,7 @@ source_reader joined d =
     (λ a d' g next avoids t ts s h. on_clear joined d' g _ t ts s (λ on n. avoids _ t ts (within (symbol.Name ∷ symbol.As ∷ []) source_ends refl t s) n) h))
     (λ a d' g next avoids t ts s h. s)
 
-source_begins : (joined : Bool) → Begins (Sourced joined) (λ t. is symbol.Name t ≡ true)
+source_begins : (joined : Bool) → BeginsWith (Sourced joined) (λ t. is symbol.Name t ≡ true)
 source_begins joined d g next [] h = h
 source_begins joined d g next (t ∷ ts) h = h.0
 
@@ -288,7 +289,7 @@ having_reader d =
 abbrev ColumnEnds : Token → Type 0
 ColumnEnds = AnyOf (symbol.Point ∷ [])
 
-column_begins : Begins (λ _ _. IsColumn) (λ t. is symbol.Name t ≡ true)
+column_begins : BeginsWith (λ _ _. IsColumn) (λ t. is symbol.Name t ≡ true)
 column_begins d g next [] h = h
 column_begins d g next (t ∷ ts) h = h.0
 
@@ -331,9 +332,9 @@ direction_reader S inS d =
     (behind_reader S (is symbol.Desc) (sample symbol.Desc) stands_desc (λ _ _ next. next true) AscOr d (λ r. Ok (true, r)) _ (pure_reader S d true)
     (optional_reader S (is symbol.Asc) (sample symbol.Asc) stands_asc Ascending false d (λ r. Ok (false, r)) (pure_reader S d false) (λ t e. inS t (inl e)))
     (λ ts e. or_other S Ascending (Then (λ _ _. Is (is symbol.Asc)) (λ _. Ascending)) ts (none_stops S (is symbol.Desc) false (λ t e. inS t (inr (inl e))) ts e)
-    (not_other S (Then (λ _ _. Is (is symbol.Asc)) (λ _. Ascending)) (λ t. is symbol.Asc t ≡ true) (is symbol.Desc) asc_begins (λ t e a. two_symbols symbol.Desc symbol.Asc t refl e a) ts e)))
+    (bars S (Then (λ _ _. Is (is symbol.Asc)) (λ _. Ascending)) (λ t. is symbol.Asc t ≡ true) (is symbol.Desc) asc_begins (λ t e a. not_both symbol.Desc symbol.Asc t refl e a) ts e)))
   where
-    asc_begins : Begins (Then (λ _ _. Is (is symbol.Asc)) (λ _. Ascending)) (λ t. is symbol.Asc t ≡ true)
+    asc_begins : BeginsWith (Then (λ _ _. Is (is symbol.Asc)) (λ _. Ascending)) (λ t. is symbol.Asc t ≡ true)
     asc_begins d g next [] h = h
     asc_begins d g next (t ∷ ts) h = h.0
 
@@ -353,7 +354,7 @@ key_reader d =
     (λ a d' g next avoids t ts s h. direction_not KeyEnds (λ descending. next (record { expr = a; descending = descending })) t ts s
     (λ n. avoids (record { expr = a; descending = false }) t ts (within (symbol.Point ∷ symbol.Open ∷ []) (symbol.Point ∷ symbol.Open ∷ symbol.Asc ∷ symbol.Desc ∷ []) refl t s) n) h)
 
-key_begins : Begins (λ _ _. IsKey) (λ t. is symbol.Name t ≡ true)
+key_begins : BeginsWith (λ _ _. IsKey) (λ t. is symbol.Name t ≡ true)
 key_begins d g next w h = expr_begins d g (λ e. IsDirection (λ descending. next (record { expr = e; descending = descending }))) w h
 
 key_look : (d : ℕ) → Peek KeyEnds (λ _ _. IsKey) d (token_at (is symbol.Name))
@@ -390,24 +391,24 @@ Grouped f d g next = IsGroups g (λ groups. Having (f groups) d g next)
 abbrev Filtered : (Option Test → List ColumnName → Option Test → List OrderItem → Select) → Phrase Select
 Filtered f d g next = IsFilter d g (λ filter. Grouped (f filter) d g next)
 
-ending_begins : (s : Select) → Begins (Ending s) (AnyOf (symbol.Semicolon ∷ symbol.End ∷ []))
+ending_begins : (s : Select) → BeginsWith (Ending s) (AnyOf (symbol.Semicolon ∷ symbol.End ∷ []))
 ending_begins s d g next [] h = elim h [ inl e ↦ e | inr c ↦ c ]
 ending_begins s d g next (t ∷ ts) h = elim h [ inl e ↦ inr (inl e.0) | inr c ↦ inl c.0 ]
 
-ordered_begins : (f : List OrderItem → Select) → Begins (Ordered f) (AnyOf (symbol.Order ∷ symbol.Semicolon ∷ symbol.End ∷ []))
+ordered_begins : (f : List OrderItem → Select) → BeginsWith (Ordered f) (AnyOf (symbol.Order ∷ symbol.Semicolon ∷ symbol.End ∷ []))
 ordered_begins f d g next [] h = elim h [ inl e ↦ ending_begins (f []) d g next [] e | inr c ↦ c ]
 ordered_begins f d g next (t ∷ ts) h = elim h [ inl e ↦ inr (ending_begins (f []) d g next (t ∷ ts) e) | inr c ↦ inl c.0 ]
 
-having_begins : (f : Option Test → List OrderItem → Select) → Begins (Having f) (AnyOf (symbol.Having ∷ symbol.Order ∷ symbol.Semicolon ∷ symbol.End ∷ []))
+having_begins : (f : Option Test → List OrderItem → Select) → BeginsWith (Having f) (AnyOf (symbol.Having ∷ symbol.Order ∷ symbol.Semicolon ∷ symbol.End ∷ []))
 having_begins f d g next [] h = elim h [ inl e ↦ ordered_begins (f None) d g next [] e | inr c ↦ c ]
 having_begins f d g next (t ∷ ts) h = elim h [ inl e ↦ inr (ordered_begins (f None) d g next (t ∷ ts) e) | inr c ↦ inl c.0 ]
 
-grouped_begins : (f : List ColumnName → Option Test → List OrderItem → Select) → Begins (Grouped f) (AnyOf (symbol.Group ∷ symbol.Having ∷ symbol.Order ∷ symbol.Semicolon ∷ symbol.End ∷ []))
+grouped_begins : (f : List ColumnName → Option Test → List OrderItem → Select) → BeginsWith (Grouped f) (AnyOf (symbol.Group ∷ symbol.Having ∷ symbol.Order ∷ symbol.Semicolon ∷ symbol.End ∷ []))
 grouped_begins f d g next [] h = elim h [ inl e ↦ having_begins (f []) d g next [] e | inr c ↦ c ]
 grouped_begins f d g next (t ∷ ts) h = elim h [ inl e ↦ inr (having_begins (f []) d g next (t ∷ ts) e) | inr c ↦ inl c.0 ]
 
 filtered_begins : (f : Option Test → List ColumnName → Option Test → List OrderItem → Select)
-    → Begins (Filtered f) (AnyOf (symbol.Where ∷ symbol.Group ∷ symbol.Having ∷ symbol.Order ∷ symbol.Semicolon ∷ symbol.End ∷ []))
+    → BeginsWith (Filtered f) (AnyOf (symbol.Where ∷ symbol.Group ∷ symbol.Having ∷ symbol.Order ∷ symbol.Semicolon ∷ symbol.End ∷ []))
 filtered_begins f d g next [] h = elim h [ inl e ↦ grouped_begins (f None) d g next [] e | inr c ↦ c ]
 filtered_begins f d g next (t ∷ ts) h = elim h [ inl e ↦ inr (grouped_begins (f None) d g next (t ∷ ts) e) | inr c ↦ inl c.0 ]
 
@@ -458,7 +459,7 @@ filtered_reader f d =
     then_reader Nothing FilterEnds IsFilter (λ filter. Grouped (f filter)) d (where_at d) (λ filter. grouped_at d (f filter.0) filter.1) (filter_reader d) (λ filter. grouped_reader (f filter) d)
     (λ a d' g next avoids t ts k h. disjoint (symbol.Where ∷ symbol.Point ∷ symbol.Open ∷ symbol.And ∷ symbol.Or ∷ []) (symbol.Group ∷ symbol.Having ∷ symbol.Order ∷ symbol.Semicolon ∷ symbol.End ∷ []) refl t k (grouped_begins (f a) d' g next (t ∷ ts) h))
 
-items_begin : Begins (λ _ g. IsItems g) (AnyOf (symbol.Star ∷ symbol.Name ∷ []))
+items_begin : BeginsWith (λ _ g. IsItems g) (AnyOf (symbol.Star ∷ symbol.Name ∷ []))
 items_begin d g next w h = elim h [
   | inl s ↦ widened (λ t. is symbol.Star t ≡ true) (AnyOf (symbol.Star ∷ symbol.Name ∷ [])) (λ t e. inl e) w (stars_begin d g next w s)
   | inr l ↦ widened (λ t. is symbol.Name t ≡ true) (AnyOf (symbol.Star ∷ symbol.Name ∷ [])) (λ t e. inr (inl e)) w (listed_begins d g next w l)

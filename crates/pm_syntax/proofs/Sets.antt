@@ -1,14 +1,14 @@
 -- Sets of symbols, and what a phrase begins with.
-use Rattle.std.proofs.Common.{if◌then◌else◌, ◌≡◌, ◌⊎◌, ℕ, Bool, true, false, List, [], ◌∷◌, refl, sym, inl, inr, ◌||◌, ◌&&◌, rules}
+use Rattle.std.proofs.Common.{if◌then◌else◌, ◌≡◌, ◌⊎◌, Bool, true, false, List, [], ◌∷◌, refl, sym, inl, inr, ◌||◌, ◌&&◌, rules}
 use denote.Enum.Bare.{same_true}
 use Rattle.pm_lexer.specs.contracts.symbol.Symbol.{the_type}
 use Rattle.pm_lexer.specs.declared.token.Token.{Token}
 use Rattle.pm_lexer.specs.declared.symbol.Symbol.{Symbol}
 use Rattle.pm_lexer.specs.Symbol.{same_symbol, is}
-use Rattle.pm_lexer.specs.Language.{Gate, Is}
+use Rattle.pm_lexer.specs.Language.{Is}
 use Rattle.pm_lexer.specs.Reading.{sees}
 use Rattle.pm_lexer.proofs.Phrases.{Phrase, Next, NotOther}
-use Rattle.pm_syntax.proofs.Tokens.{two_symbols}
+use Rattle.pm_lexer.proofs.Firsts.{FirstOf, BeginsWith, not_both}
 
 -- a token that is one of these symbols
 abbrev pub AnyOf : List Symbol → Token → Type 0
@@ -39,7 +39,7 @@ pub apart : (s : Symbol) (xs : List Symbol) → member s xs ≡ false → (t : T
 apart s [] m t e h = h
 apart s (x ∷ xs) m t e h =
     elim h [
-      | inl f ↦ two_symbols s x t (first (same_symbol s x) (member s xs) m) e f
+      | inl f ↦ not_both s x t (first (same_symbol s x) (member s xs) m) e f
       | inr more ↦ apart s xs (second (same_symbol s x) (member s xs) m) t e more
     ]
   where
@@ -63,31 +63,16 @@ within (x ∷ xs) ys m t h = elim h [ inl e ↦ in_set x ys (both_first (member 
     both_second true b e = e
     both_second false b e = absurd (cc e)
 
--- what a list of tokens begins with
-abbrev pub FirstIn : (Token → Type 0) → List Token → Type 0
-FirstIn F [] = ⊥
-FirstIn F (t ∷ ts) = F t
-
--- each phrase begins with such a token
-abbrev pub Begins : {A : Type 0} → Phrase A → (Token → Type 0) → Type 1
-Begins {A} P F = (d : ℕ) (g : Gate) (next : Next A) (w : List Token) → P d g next w → FirstIn F w
-
-pub begins_is : (test : Token → Bool) (next : Next Token) (w : List Token) → Is test next w → FirstIn (λ t. test t ≡ true) w
+pub begins_is : (test : Token → Bool) (next : Next Token) (w : List Token) → Is test next w → FirstOf (λ t. test t ≡ true) w
 begins_is test next [] h = h
 begins_is test next (t ∷ ts) h = h.0
 
-pub widened : (F G : Token → Type 0) → ((t : Token) → F t → G t) → (w : List Token) → FirstIn F w → FirstIn G w
+pub widened : (F G : Token → Type 0) → ((t : Token) → F t → G t) → (w : List Token) → FirstOf F w → FirstOf G w
 widened F G sub [] h = h
 widened F G sub (t ∷ ts) h = sub t h
 
--- no phrase begins with a token of the test
-pub not_other : {A : Type 0} (S : Token → Type 0) (P : Phrase A) (F : Token → Type 0) (test : Token → Bool) → Begins P F → ((t : Token) → test t ≡ true → F t → ⊥) → (ts : List Token) → sees test ts ≡ true → NotOther S P ts
-not_other S P F test begins bars [] e d g next w avoids heads h = absurd (let bad : false ≡ true = e in cc)
-not_other S P F test begins bars (t ∷ ts) e d g next [] avoids heads h = heads
-not_other S P F test begins bars (t ∷ ts) e d g next (u ∷ us) avoids heads h = bars u (rw (sym heads) at e) (begins d g next (u ∷ us) h)
-
 -- each phrase begins with a token of the test
-pub none_other : {A : Type 0} (S : Token → Type 0) (P : Phrase A) (F : Token → Type 0) (test : Token → Bool) → Begins P F → ((t : Token) → F t → test t ≡ true) → (ts : List Token) → sees test ts ≡ false → NotOther S P ts
+pub none_other : {A : Type 0} (S : Token → Type 0) (P : Phrase A) (F : Token → Type 0) (test : Token → Bool) → BeginsWith P F → ((t : Token) → F t → test t ≡ true) → (ts : List Token) → sees test ts ≡ false → NotOther S P ts
 none_other S P F test begins gives [] e d g next [] avoids heads h = begins d g next [] h
 none_other S P F test begins gives [] e d g next (u ∷ us) avoids heads h = absurd (let bad : u ∷ us ≡ [] = heads in cc)
 none_other S P F test begins gives (t ∷ ts) e d g next [] avoids heads h = heads

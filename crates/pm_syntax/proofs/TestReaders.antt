@@ -10,6 +10,7 @@ use Rattle.pm_lexer.specs.Reading.{◌>>=◌, token_at}
 use Rattle.pm_lexer.proofs.Phrases.{Phrase, Next, Reader, Nothing, Began}
 use Rattle.pm_lexer.proofs.Readers.{Then, Or, pure_reader, then_reader, then_began, same_reader, map_reader, token_reader, first_began, second_began}
 use Rattle.pm_lexer.proofs.Lists.{Peek}
+use Rattle.pm_lexer.proofs.Firsts.{BeginsWith, bars, not_both}
 use Rattle.pm_lexer.proofs.Furthers.{choice_reader, behind_reader, list_reader, token_peek}
 use Rattle.pm_syntax.specs.declared.tree.Comparison.TheVariants as comparison
 use Rattle.pm_syntax.specs.declared.tree.Literal.TheVariants as literal
@@ -20,8 +21,8 @@ use Rattle.pm_syntax.specs.declared.tree.Test.TheVariants as test
 use Rattle.pm_syntax.specs.Terminals.{comparison_of, comparison_of_symbol, compares, magnitude}
 use Rattle.pm_syntax.specs.Grammar.{IsLiteral, IsOperand, IsOptional, IsCompare, IsNullTest, IsIn, IsBetween, IsTest}
 use Rattle.pm_syntax.specs.Reading.{literal_at, operand_at, optional_at, literals_at, compare_behind, null_behind, in_behind, between_behind, range_behind, test_behind, test_at, begins_literal, begins_test}
-use Rattle.pm_syntax.proofs.Tokens.{is_symbol, two_symbols, sample, stands_open, stands_close, stands_comma, equal_compares, stands_is, stands_not, stands_null, stands_in, stands_between, stands_and, stands_number, symbol_reader}
-use Rattle.pm_syntax.proofs.Sets.{AnyOf, Begins, not_other, none_other, apart}
+use Rattle.pm_syntax.proofs.Tokens.{is_symbol, sample, stands_open, stands_close, stands_comma, equal_compares, stands_is, stands_not, stands_null, stands_in, stands_between, stands_and, stands_number, symbol_reader}
+use Rattle.pm_syntax.proofs.Sets.{AnyOf, none_other, apart}
 use Rattle.pm_syntax.proofs.Helpers.{maybe_reader}
 use Rattle.pm_syntax.proofs.ExprReaders.{LiteralFirst, literal_begins, literal_reader, OperandFirst, operand_begins, operand_reader, Termed, Literals, term_began}
 
@@ -112,7 +113,7 @@ null_reader S of d =
     then_reader S NotOnly (λ _ _. IsOptional (is symbol.Not)) (λ negation _ _ next. Is (is symbol.Null) (λ _. next (test.IsNull of (is_some negation)))) d (λ ts. Ok (optional_at (is symbol.Not) ts)) (λ negation. token_at (is symbol.Null) negation.1 >>= λ null. Ok (test.IsNull of (is_some negation.0), null.1))
     (maybe_reader NotOnly (is symbol.Not) (sample symbol.Not) stands_not d (λ t e. inl e))
     (λ negation. symbol_reader S symbol.Null stands_null _ d _ (λ _. pure_reader S d (test.IsNull of (is_some negation))))
-    (λ a d' g next avoids t ts s h. elim s [ inl e ↦ two_symbols symbol.Not symbol.Null t refl e h.0 | inr none ↦ none ])
+    (λ a d' g next avoids t ts s h. elim s [ inl e ↦ not_both symbol.Not symbol.Null t refl e h.0 | inr none ↦ none ])
 
 -- IN and BETWEEN, behind an operand and its NOT
 abbrev Ins : Atom → Option Token → Phrase Test
@@ -127,7 +128,7 @@ in_reader S of negation d =
     symbol_reader S symbol.In stands_in _ d _ (λ word. symbol_reader S symbol.Open stands_open _ d _ (λ _.
     then_reader S CommaOnly (λ d g. IsList g 256 IsLiteral (is symbol.Comma)) (λ list _ _ next. Is (is symbol.Close) (λ _. next (test.OneOf of list (is_some negation) (unwrap_or negation word).at))) d literals_at _ (literals_reader d)
     (λ list. symbol_reader S symbol.Close stands_close _ d _ (λ _. pure_reader S d (test.OneOf of list (is_some negation) (unwrap_or negation word).at)))
-    (λ a d' g next avoids t ts s h. elim s [ inl e ↦ two_symbols symbol.Comma symbol.Close t refl e h.0 | inr none ↦ none ])))
+    (λ a d' g next avoids t ts s h. elim s [ inl e ↦ not_both symbol.Comma symbol.Close t refl e h.0 | inr none ↦ none ])))
 
 between_reader : (S : Token → Type 0) → ((t : Token) → OperandEnds t → S t) → (grouped : Bool) (of : Atom) (negation : Option Token) (d : ℕ)
     → Reader S (Betweens grouped of negation) d (λ ts. token_at (is symbol.Between) ts >>= λ word. between_behind grouped of negation word.0 word.1)
@@ -140,11 +141,11 @@ between_reader S inS grouped of negation d =
     map_reader S (λ _ _. IsOperand grouped) (λ high. test.Between of low high (is_some negation) (unwrap_or negation word).at) d (operand_at grouped) (operands S inS grouped d)))
     (λ a d' g next avoids t ts s h. apart symbol.And (symbol.Point ∷ symbol.Open ∷ []) refl t h.0 s))
 
-in_begins : (of : Atom) (negation : Option Token) → Begins (Ins of negation) (AnyOf (symbol.In ∷ []))
+in_begins : (of : Atom) (negation : Option Token) → BeginsWith (Ins of negation) (AnyOf (symbol.In ∷ []))
 in_begins of negation d g next [] h = h
 in_begins of negation d g next (t ∷ ts) h = inl h.0
 
-between_begins : (grouped : Bool) (of : Atom) (negation : Option Token) → Begins (Betweens grouped of negation) (AnyOf (symbol.Between ∷ []))
+between_begins : (grouped : Bool) (of : Atom) (negation : Option Token) → BeginsWith (Betweens grouped of negation) (AnyOf (symbol.Between ∷ []))
 between_begins grouped of negation d g next [] h = h
 between_begins grouped of negation d g next (t ∷ ts) h = inl h.0
 
@@ -155,7 +156,7 @@ range_reader : (S : Token → Type 0) → ((t : Token) → OperandEnds t → S t
 unfolding range_behind same_symbol
 range_reader S inS grouped of negation d =
     choice_reader S (Ins of negation) (Betweens grouped of negation) (is symbol.In) d _ _ (in_reader S of negation d) (between_reader S inS grouped of negation d)
-    (not_other S (Betweens grouped of negation) (AnyOf (symbol.Between ∷ [])) (is symbol.In) (between_begins grouped of negation) (λ t e h. apart symbol.In (symbol.Between ∷ []) refl t e h))
+    (bars S (Betweens grouped of negation) (AnyOf (symbol.Between ∷ [])) (is symbol.In) (between_begins grouped of negation) (λ t e h. apart symbol.In (symbol.Between ∷ []) refl t e h))
     (none_other S (Ins of negation) (AnyOf (symbol.In ∷ [])) (is symbol.In) (in_begins of negation) (λ t h. elim h [ inl e ↦ e | inr none ↦ absurd none ]))
 
 -- [ NOT ] IN or BETWEEN
@@ -165,14 +166,14 @@ NotRanges grouped of = Then (λ _ _. IsOptional (is symbol.Not)) (Ranges grouped
 abbrev RangeFirst : Token → Type 0
 RangeFirst = AnyOf (symbol.Not ∷ symbol.In ∷ symbol.Between ∷ [])
 
-not_ranges_begin : (grouped : Bool) (of : Atom) → Begins (NotRanges grouped of) RangeFirst
+not_ranges_begin : (grouped : Bool) (of : Atom) → BeginsWith (NotRanges grouped of) RangeFirst
 not_ranges_begin grouped of d g next [] h = elim h [ inl n ↦ elim n [ inl i ↦ i | inr b ↦ b ] | inr s ↦ s ]
 not_ranges_begin grouped of d g next (t ∷ ts) h = elim h [ inl n ↦ elim n [ inl i ↦ inr (inl i.0) | inr b ↦ inr (inr (inl b.0)) ] | inr s ↦ inl s.0 ]
 
 range_clear : (grouped : Bool) (of : Atom) (negation : Option Token) (d : ℕ) (g : Gate) (next : Next Test) (t : Token) (ts : List Token) → NotOnly t → Ranges grouped of negation d g next (t ∷ ts) → ⊥
 unfolding same_symbol
 range_clear grouped of negation d g next t ts s h =
-    elim s [ inl e ↦ elim h [ inl i ↦ two_symbols symbol.Not symbol.In t refl e i.0 | inr b ↦ two_symbols symbol.Not symbol.Between t refl e b.0 ] | inr none ↦ none ]
+    elim s [ inl e ↦ elim h [ inl i ↦ not_both symbol.Not symbol.In t refl e i.0 | inr b ↦ not_both symbol.Not symbol.Between t refl e b.0 ] | inr none ↦ none ]
 
 not_range_reader : (S : Token → Type 0) → ((t : Token) → OperandEnds t → S t) → (grouped : Bool) (of : Atom) (d : ℕ)
     → Reader S (NotRanges grouped of) d (λ ts. let negation = optional_at (is symbol.Not) ts in range_behind grouped of negation.0 negation.1)
@@ -188,7 +189,7 @@ NullsOr grouped of = Or (NotRanges grouped of) (Then (λ _ _. Is (is symbol.Is))
 abbrev pub TestBehind : Bool → Atom → Phrase Test
 TestBehind grouped of d g next ts = IsCompare grouped of next ts ⊎ IsNullTest of next ts ⊎ IsOptional (is symbol.Not) (λ negation ts. IsIn g of negation next ts ⊎ IsBetween grouped of negation next ts) ts
 
-nulls_or_begin : (grouped : Bool) (of : Atom) → Begins (NullsOr grouped of) (AnyOf (symbol.Is ∷ symbol.Not ∷ symbol.In ∷ symbol.Between ∷ []))
+nulls_or_begin : (grouped : Bool) (of : Atom) → BeginsWith (NullsOr grouped of) (AnyOf (symbol.Is ∷ symbol.Not ∷ symbol.In ∷ symbol.Between ∷ []))
 nulls_or_begin grouped of d g next [] h = elim h [ inl r ↦ not_ranges_begin grouped of d g next [] r | inr i ↦ i ]
 nulls_or_begin grouped of d g next (t ∷ ts) h = elim h [ inl r ↦ inr (not_ranges_begin grouped of d g next (t ∷ ts) r) | inr i ↦ inl i.0 ]
 
@@ -198,7 +199,7 @@ no_sign t c h = elim h [
   | inr a ↦ elim a [ inl e ↦ no_comparison symbol.Not refl t c e | inr b ↦ elim b [ inl e ↦ no_comparison symbol.In refl t c e | inr f ↦ elim f [ inl e ↦ no_comparison symbol.Between refl t c e | inr none ↦ none ] ] ]
 ]
 
-compare_begins : (grouped : Bool) (of : Atom) → Begins (Compares grouped of) (λ t. compares t ≡ true)
+compare_begins : (grouped : Bool) (of : Atom) → BeginsWith (Compares grouped of) (λ t. compares t ≡ true)
 compare_begins grouped of d g next [] h = h
 compare_begins grouped of d g next (t ∷ ts) h = h.0
 
@@ -212,8 +213,8 @@ test_behind_reader S inS grouped of d =
     })
     (choice_reader S (Compares grouped of) (NullsOr grouped of) compares d _ _ (compare_reader S inS grouped of d)
     (behind_reader S (is symbol.Is) (sample symbol.Is) stands_is (NullBehind of) (NotRanges grouped of) d _ _ (null_reader S of d) (not_range_reader S inS grouped of d)
-    (not_other S (NotRanges grouped of) RangeFirst (is symbol.Is) (not_ranges_begin grouped of) (λ t e h. apart symbol.Is (symbol.Not ∷ symbol.In ∷ symbol.Between ∷ []) refl t e h)))
-    (not_other S (NullsOr grouped of) (AnyOf (symbol.Is ∷ symbol.Not ∷ symbol.In ∷ symbol.Between ∷ [])) compares (nulls_or_begin grouped of) no_sign)
+    (bars S (NotRanges grouped of) RangeFirst (is symbol.Is) (not_ranges_begin grouped of) (λ t e h. apart symbol.Is (symbol.Not ∷ symbol.In ∷ symbol.Between ∷ []) refl t e h)))
+    (bars S (NullsOr grouped of) (AnyOf (symbol.Is ∷ symbol.Not ∷ symbol.In ∷ symbol.Between ∷ [])) compares (nulls_or_begin grouped of) no_sign)
     (none_other S (Compares grouped of) (λ t. compares t ≡ true) compares (compare_begins grouped of) (λ t e. e)))
 
 -- an operand's end is no beginning of what stands behind it
@@ -240,7 +241,7 @@ test_reader S inS grouped d =
     then_reader S OperandEnds (λ _ _. IsOperand grouped) (TestBehind grouped) d (operand_at grouped) _ (operands OperandEnds (λ t e. e) grouped d) (λ of. test_behind_reader S inS grouped of d)
     (λ a d' g next avoids t ts s h. test_clear S grouped a d' g next t ts s h)
 
-pub test_begins : (grouped : Bool) → Begins (Tests grouped) OperandFirst
+pub test_begins : (grouped : Bool) → BeginsWith (Tests grouped) OperandFirst
 test_begins grouped d g next w h = operand_begins grouped d g (λ of. TestBehind grouped of d g next) w h
 
 -- a test may begin with each first token of an operand

@@ -1,5 +1,5 @@
--- Readers of single tokens, and what two symbols say of one token.
-use Rattle.std.proofs.Common.{◌≡◌, ℕ, true, false, List, [], ◌∷◌, refl, sym, rules, codes}
+-- Readers of single tokens, and a token of each symbol.
+use Rattle.std.proofs.Common.{◌≡◌, ℕ, true, List, [], refl, rules, codes}
 use denote.Enum.Bare.{same_true}
 use Rattle.pm_lexer.specs.contracts.symbol.Symbol.{the_type}
 use Rattle.pm_lexer.specs.declared.token.Token.{Token}
@@ -9,18 +9,14 @@ use Rattle.pm_lexer.specs.declared.symbol.Symbol.TheVariants as symbol
 use Rattle.pm_lexer.specs.Symbol.{symbol_of, same_symbol, is, spelling, reserved_word, canonical_sign}
 use Rattle.pm_syntax.specs.Terminals.{compares}
 use Rattle.pm_lexer.specs.Language.{Is}
-use Rattle.pm_lexer.specs.Reading.{Read, ◌>>=◌, sees, token_at}
-use Rattle.pm_lexer.proofs.Phrases.{Phrase, Next, Heads, Reader}
+use Rattle.pm_lexer.specs.Reading.{Read, ◌>>=◌, token_at}
+use Rattle.pm_lexer.proofs.Phrases.{Phrase, Reader}
 use Rattle.pm_lexer.proofs.Readers.{Then, token_reader}
 
 -- a token is its symbol
 pub is_symbol : (s : Symbol) (t : Token) → is s t ≡ true → symbol_of t ≡ s
 unfolding same_symbol
 is_symbol s t e = same_true the_type (search rules) (symbol_of t) s e
-
--- no token is two symbols
-pub two_symbols : (a b : Symbol) (t : Token) → same_symbol a b ≡ false → is a t ≡ true → is b t ≡ true → ⊥
-two_symbols a b t d e f = let same : same_symbol a b ≡ true = rw (is_symbol a t e) at f in cc
 
 -- a token of each symbol
 pub sample : Symbol → Token
@@ -187,9 +183,3 @@ equal_compares = refl
 pub symbol_reader : {B : Type 0} (S : Token → Type 0) (s : Symbol) → Stands s → (Q : Token → Phrase B) (d : ℕ) (q : Token × List Token → Read B) → ((t : Token) → Reader S (Q t) d (λ r. q (t, r)))
     → Reader S (Then (λ _ _. Is (is s)) Q) d (λ ts. token_at (is s) ts >>= q)
 symbol_reader S s e Q d q second = token_reader S (is s) (sample s) e Q d q second
-
--- a phrase that begins with another symbol
-pub other_symbol : (a b : Symbol) → same_symbol a b ≡ false → (ts w : List Token) (next : Next Token) → sees (is a) ts ≡ true → Heads ts w → Is (is b) next w → ⊥
-other_symbol a b d [] w next e heads h = absurd (let bad : false ≡ true = e in cc)
-other_symbol a b d (t ∷ ts) [] next e heads h = h
-other_symbol a b d (t ∷ ts) (u ∷ us) next e heads h = two_symbols a b u d (rw (sym heads) at e) h.0

@@ -3,7 +3,8 @@ use Rattle.std.proofs.lemmas.Result.{err_from_is_err_and}
 use Rattle.pm_lexer.specs.declared.symbol.Symbol.TheVariants as symbol
 use Rattle.pm_lexer.specs.Symbol.{is}
 use Rattle.pm_syntax.specs.Reading.{ands_at, part_at, part_peek}
-use Rattle.pm_syntax.proofs.Steps.{more_ends, more_stops, comma_took, comma_fails, ands_fail, cond_fails}
+use Rattle.pm_lexer.proofs.Turns.{more_ends, more_stops, token_took, token_fails}
+use Rattle.pm_syntax.proofs.Steps.{fails_through, ands_fail, cond_fails}
 use Rattle.pm_syntax.proofs.conditions.+cond.Goals as goal
 
 pub more_parts-returns-in_default : goal.more_parts-returns-in_default
@@ -15,14 +16,14 @@ more_parts-returns-in_err-next t c =
     let n = length c.args.rest.now - c.parts.counter in
     let seen = c.in-Some.ensures in
     let failed = rw (seen.1, c.len.ensures) at c.in_err-next.ensures in
-    rw (p.1, p.2, ← c.parts.invariant) (comma_fails (is symbol.And) (part_peek c.args.depth) (part_at c.args.grouped c.args.depth) 256 n (n - 1) c.parts.members c.parts.rest.now _ (omega arith) seen.0 failed)
+    rw (p.1, p.2, ← c.parts.invariant) (fails_through _ _ _ (λ stop h. token_fails (is symbol.And) (part_peek c.args.depth) (part_at c.args.grouped c.args.depth) 256 n (n - 1) c.parts.members c.parts.rest.now stop (omega arith) seen.0 h) failed)
 
 pub more_parts-parts-preserved : goal.more_parts-parts-preserved
 more_parts-parts-preserved t c =
     let seen = c.in-Some.ensures in
     let read = rw (seen.1, c.len.ensures) at c.in_ok-next.ensures in
     let n = length c.args.rest.now - c.parts.counter in
-    let took = comma_took (is symbol.And) (part_peek c.args.depth) (part_at c.args.grouped c.args.depth) 256 n (length c.args.rest.now - (c.parts.counter + 1)) c.parts.members c.parts.rest.now _ _ (omega arith) seen.0 read in
+    let took = token_took (is symbol.And) (part_peek c.args.depth) (part_at c.args.grouped c.args.depth) 256 n (length c.args.rest.now - (c.parts.counter + 1)) c.parts.members c.parts.rest.now _ _ (omega arith) seen.0 read in
     rw c.in_ok-push.ensures.ok (sym took ∙ c.parts.invariant)
 
 pub more_parts-returns : goal.more_parts-returns
@@ -37,14 +38,14 @@ more_ands-returns-in_err-next t c =
     let n = length c.args.rest.now - c.ands.counter in
     let seen = c.in-Some.ensures in
     let failed = rw (seen.1, c.len.ensures) at c.in_err-next.ensures in
-    rw (p.1, p.2, ← c.ands.invariant) (comma_fails (is symbol.Or) (part_peek c.args.depth) (ands_at (part_peek c.args.depth) (part_at c.args.grouped c.args.depth)) 256 n (n - 1) c.ands.members c.ands.rest.now _ (omega arith) seen.0 failed)
+    rw (p.1, p.2, ← c.ands.invariant) (fails_through _ _ _ (λ stop h. token_fails (is symbol.Or) (part_peek c.args.depth) (ands_at (part_peek c.args.depth) (part_at c.args.grouped c.args.depth)) 256 n (n - 1) c.ands.members c.ands.rest.now stop (omega arith) seen.0 h) failed)
 
 pub more_ands-ands-preserved : goal.more_ands-ands-preserved
 more_ands-ands-preserved t c =
     let seen = c.in-Some.ensures in
     let read = rw (seen.1, c.len.ensures) at c.in_ok-next.ensures in
     let n = length c.args.rest.now - c.ands.counter in
-    let took = comma_took (is symbol.Or) (part_peek c.args.depth) (ands_at (part_peek c.args.depth) (part_at c.args.grouped c.args.depth)) 256 n (length c.args.rest.now - (c.ands.counter + 1)) c.ands.members c.ands.rest.now _ _ (omega arith) seen.0 read in
+    let took = token_took (is symbol.Or) (part_peek c.args.depth) (ands_at (part_peek c.args.depth) (part_at c.args.grouped c.args.depth)) 256 n (length c.args.rest.now - (c.ands.counter + 1)) c.ands.members c.ands.rest.now _ _ (omega arith) seen.0 read in
     rw c.in_ok-push.ensures.ok (sym took ∙ c.ands.invariant)
 
 pub more_ands-returns : goal.more_ands-returns

@@ -4,7 +4,8 @@ use Rattle.pm_lexer.specs.declared.symbol.Symbol.TheVariants as symbol
 use Rattle.pm_lexer.specs.Symbol.{is}
 use Rattle.pm_lexer.specs.Reading.{token_at}
 use Rattle.pm_syntax.specs.Reading.{joins, join_at, source_at}
-use Rattle.pm_syntax.proofs.Steps.{more_ends, more_stops, more_took, more_fails, sep_fails}
+use Rattle.pm_lexer.proofs.Turns.{more_ends, more_stops, more_took, more_fails}
+use Rattle.pm_syntax.proofs.Steps.{fails_through, sep_fails}
 use Rattle.pm_syntax.proofs.statement.more_sources.Goals as goal
 
 pub returns-then-not-joins : goal.returns-then-not-joins
@@ -21,7 +22,7 @@ returns-in_err-next c =
     let p = err_from_is_err_and c.from_residual-in_err-next.result c.from_residual-in_err-next.ensures.1 in
     let n = length c.args.rest.now - c.sources.counter in
     let failed = rw c.len.ensures at c.in_err-next.ensures in
-    rw (p.1, p.2, ← c.sources.invariant) (more_fails joins join_at (token_at (is symbol.Name)) (source_at 32) 64 n (n - 1) c.sources.list c.sources.rest.now _ _ _ (omega arith) (search (rules, c.if-not-joins.ensures)) c.in_ok-joined.ensures failed)
+    rw (p.1, p.2, ← c.sources.invariant) (fails_through _ _ _ (λ stop h. more_fails joins join_at (token_at (is symbol.Name)) (source_at 32) 64 n (n - 1) c.sources.list c.sources.rest.now _ _ stop (omega arith) (search (rules, c.if-not-joins.ensures)) c.in_ok-joined.ensures h) failed)
 
 pub sources-preserved : goal.sources-preserved
 sources-preserved c =
