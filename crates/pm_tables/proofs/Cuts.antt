@@ -1,9 +1,9 @@
 -- records in one list of fields
-use Rattle.std.proofs.Common.{◌≡◌, ◌∙◌, ◌≤◌, ◌<◌, ◌+◌, ◌-◌, ◌++◌, ℕ, zero, suc, Some, List, [], ◌∷◌, length, get_or, take, drop, refl, ap, arith}
+use Rattle.std.proofs.Common.{◌≡◌, ◌∙◌, ◌≤◌, ◌<◌, ◌+◌, ◌-◌, ◌++◌, ℕ, zero, suc, Some, List, [], ◌∷◌, length, get_or, take, drop, refl, ap, arith, slice_range}
 use Rattle.std.proofs.lemmas.List.{drop-append-le, length-append, get_or-drop, get_or-take, length-drop, length-take-le, take-append-le, take_all}
 use Rattle.std.proofs.Math.Seq.{drop-append_seam}
 use Rattle.csv.specs.Records.{Rising, field_at, last_end, prev}
-use Rattle.csv.proofs.RecordFacts.{field-bounds, rising-end, rising-first, rising-last, rising-shrink}
+use Rattle.csv.proofs.RecordFacts.{rising-end, rising-first, rising-last, rising-shrink}
 use Rattle.pm_tables.specs.Records.{cut}
 
 -- one record for each place
@@ -20,19 +20,12 @@ cut-at start [] fields i lt = absurd (omega arith)
 cut-at start (end ∷ ends) fields zero lt = refl
 cut-at start (end ∷ ends) fields (suc i) lt = cut-at end ends fields i (omega arith)
 
-pub width-at : (ends : List ℕ) (fields : List (List ℕ)) (i : ℕ) → Rising 0 ends (length fields) → i < length ends
-    → length (get_or (cut 0 ends fields) i []) ≡ get_or ends i 0 - prev 0 ends i
-width-at ends fields i rising lt =
-    let b = field-bounds 0 ends (length fields) i rising lt in
-    let room : get_or ends i 0 - prev 0 ends i ≤ length (drop (prev 0 ends i) fields) = omega (arith, length-drop (prev 0 ends i) fields, b.0, b.1) in
-    rw (cut-at 0 ends fields i lt) (length-take-le _ _ room)
+-- some fields of a list in a row
+pub range_length : (fields : List (List ℕ)) (start end : ℕ) → end ≤ length fields → length (slice_range fields start end) ≡ end - start
+range_length fields start end high = length-take-le (end - start) (drop start fields) (omega (arith, length-drop start fields, high))
 
-pub field-at : (ends : List ℕ) (fields : List (List ℕ)) (i k : ℕ) → Rising 0 ends (length fields) → i < length ends
-    → k < length (get_or (cut 0 ends fields) i [])
-    → get_or (get_or (cut 0 ends fields) i []) k [] ≡ get_or fields (prev 0 ends i + k) []
-field-at ends fields i k rising lt within =
-    let few : k < get_or ends i 0 - prev 0 ends i = rw (width-at ends fields i rising lt) at within in
-    rw (cut-at 0 ends fields i lt) (get_or-take _ (drop (prev 0 ends i) fields) k [] few ∙ get_or-drop (prev 0 ends i) fields k [])
+pub range_at : (fields : List (List ℕ)) (start end k : ℕ) → k < end - start → get_or (slice_range fields start end) k [] ≡ get_or fields (start + k) []
+range_at fields start end k few = get_or-take (end - start) (drop start fields) k [] few ∙ get_or-drop start fields k []
 
 -- further fields change no record
 pub cut-more : (start : ℕ) (ends : List ℕ) (fields more : List (List ℕ)) → Rising start ends (length fields) → cut start ends (fields ++ more) ≡ cut start ends fields
@@ -57,12 +50,6 @@ cut-end start [] fields h =
     let all : length (drop start fields) ≤ length fields - start = omega arith in
     rw (take_all (length fields - start) (drop start fields) all) refl
 cut-end start (end ∷ ends) fields h = rw (cut-end end ends fields h.1) refl
-
--- a field of a record stands in the list of all
-pub in_field : (ends : List ℕ) (fields : List (List ℕ)) (i k : ℕ) → Rising 0 ends (length fields) → i < length ends
-    → k < length (get_or (cut 0 ends fields) i []) → prev 0 ends i + k < get_or ends i 0
-in_field ends fields i k rising lt within =
-    let few : k < get_or ends i 0 - prev 0 ends i = rw (width-at ends fields i rising lt) at within in omega arith
 
 pub field_there : (fields : List (List ℕ)) (i : ℕ) → i < length fields → field_at fields i ≡ Some (get_or fields i [])
 unfolding field_at

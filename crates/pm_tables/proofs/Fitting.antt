@@ -49,7 +49,7 @@ rows_fit columns (f ∷ records) [] h k d lt = absurd h
 rows_fit columns (f ∷ records) (r ∷ rows) h zero d lt = row_fits columns f r h.0
 rows_fit columns (f ∷ records) (r ∷ rows) h (suc k) d lt = rows_fit columns records rows h.1 k d (omega arith)
 
-rows_count : (columns : List ColumnDecl) (records : List (List (List ℕ))) (rows : List (List Value)) → WritesRows columns records rows → length rows ≡ length records
+pub rows_count : (columns : List ColumnDecl) (records : List (List (List ℕ))) (rows : List (List Value)) → WritesRows columns records rows → length rows ≡ length records
 rows_count columns [] [] h = refl
 rows_count columns [] (r ∷ rows) h = absurd h
 rows_count columns (f ∷ records) [] h = absurd h

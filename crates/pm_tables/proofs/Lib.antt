@@ -14,3 +14,4 @@ pub mod Fitting
 pub mod RowsOnce
 pub mod Once
 pub mod Loads
+pub mod Streamed

@@ -47,7 +47,7 @@ writes_all columns fields row i all width read =
     let right : take i fields ≡ fields = rw also (take-length fields) in
     rw (left, right) at read
 
-rows_suc : (columns : List ColumnDecl) (records : List (List (List ℕ))) (rows : List (List Value)) (fields : List (List ℕ)) (row : List Value)
+pub rows_suc : (columns : List ColumnDecl) (records : List (List (List ℕ))) (rows : List (List Value)) (fields : List (List ℕ)) (row : List Value)
     → WritesRows columns records rows → WritesRow columns fields row → WritesRows columns (records ++ fields ∷ []) (rows ++ row ∷ [])
 rows_suc columns [] [] fields row read one = (one, tt)
 rows_suc columns [] (r ∷ rows) fields row read one = absurd read

@@ -1,9 +1,10 @@
 -- the rows of one hash, walked down from the last
-use Rattle.std.proofs.Common.{◌≡◌, ◌≢◌, ◌∙◌, ◌≤◌, ◌<◌, ◌+◌, ◌⊎◌, ◌++◌, Bool, true, false, cond, nat_eq, ℕ, zero, suc, Option, None, Some, List, [], ◌∷◌, get_or, length, refl, sym, ap, arith, inl, inr}
-use Rattle.std.proofs.Math.ListN.{get_or-append}
+use Rattle.std.proofs.Common.{◌≡◌, ◌≢◌, ◌∙◌, ◌≤◌, ◌<◌, ◌+◌, ◌⊎◌, ◌++◌, Bool, true, false, nat_eq, ℕ, zero, suc, Option, None, Some, List, [], ◌∷◌, get_or, length, refl, sym, ap, arith, inl, inr}
+use Rattle.std.proofs.Math.ListN.{get_or-append, set}
 use Rattle.std.proofs.Math.Seq.{get_or-append_seam}
 use Rattle.std.proofs.lemmas.Bool.{eq-eqb, eqb-true}
-use Rattle.std.proofs.lemmas.List.{length-append}
+use Rattle.std.proofs.lemmas.Grind.{get_or-set_at}
+use Rattle.std.proofs.lemmas.List.{get_or-set_other, length-append}
 use Rattle.pm_values.specs.declared.value.Value.{Value}
 use Rattle.pm_values.specs.Order.{chosen_at}
 use Rattle.pm_tables.specs.Keys.{AreChained, IsLatest}
@@ -62,19 +63,24 @@ wider hash n h (Some m) latest other = (
       elim (lt_or_le j n) [ inl low ↦ latest.2 j past low is | inr ge ↦ other (ap hash (at_end j n lt ge) ∙ is) ],
 )
 
--- one more row, whose hash is the key that is written
-pub latest_next : (hash : ℕ → ℕ) (n key h : ℕ) (o p : Option ℕ) → key ≡ hash n → IsLatest hash n h o → p ≡ cond (nat_eq key h) (Some n) o → IsLatest hash (n + 1) h p
-latest_next hash n key h o p is latest set = by (nat_eq key h) refl
+pub head_at : (heads : List (Option ℕ)) (i : ℕ) (o : Option ℕ) → i < length heads → o ≡ get_or heads i o → o ≡ get_or heads i None
+head_at [] i o lt is = absurd (omega arith)
+head_at (h ∷ heads) zero o lt is = is
+head_at (h ∷ heads) (suc i) o lt is = head_at heads i o (omega arith) is
+
+-- one more row, which is put in front of its bucket
+pub heads_next : (hash : ℕ → ℕ) (n key count : ℕ) (heads : List (Option ℕ)) → key ≡ hash n → key < length heads
+    → ((h : ℕ) → h < count → IsLatest hash n h (get_or heads h None))
+    → (h : ℕ) → h < count → IsLatest hash (n + 1) h (get_or (set heads key (Some n)) h None)
+heads_next hash n key count heads is within latest h lt = by (nat_eq key h) refl
   where
-    by : (b : Bool) → nat_eq key h ≡ b → IsLatest hash (n + 1) h p
+    by : (b : Bool) → nat_eq key h ≡ b → IsLatest hash (n + 1) h (get_or (set heads key (Some n)) h None)
     by true e =
         let same : key ≡ h = eqb-true key h e in
-        let now : p ≡ Some n = rw e at set in
-        rw now (omega arith, sym is ∙ same, λ j past lt. absurd (omega arith))
+        rw (get_or-set_at heads key h (Some n) None (sym same) within) (omega arith, sym is ∙ same, λ j past lt. absurd (omega arith))
     by false e =
         let other : hash n ≡ h → ⊥ = λ k. let yes = eq-eqb key h (is ∙ k) in cc (yes, e) in
-        let now : p ≡ o = rw e at set in
-        rw now (wider hash n h o latest other)
+        rw (get_or-set_other heads key h (Some n) None (λ k. other (sym is ∙ sym k))) (wider hash n h (get_or heads h None) (latest h lt) other)
 
 pub chained_push : (hash : ℕ → ℕ) (earlier : List (Option ℕ)) (n : ℕ) (o : Option ℕ) → length earlier ≡ n → AreChained hash earlier → IsLatest hash n (hash n) o
     → AreChained hash (earlier ++ o ∷ [])

@@ -26,3 +26,7 @@ Continues text rows reader false fields = records default_config text ≡ rows
 abbrev pub EndsTooLate : List ℕ → List (List ℕ) → ℕ → DataBad → Type 0
 EndsTooLate text header most e = (e ≡ bad.Memory) ⊎ ((e ≡ bad.TooManyRows) × (list : List (List (List ℕ)))
     × (records default_config text ≡ header ∷ list) × (most < length list))
+
+-- behind these records of the text stands a number of others of which this holds
+abbrev pub HasMore : List ℕ → List (List (List ℕ)) → (ℕ → Type 0) → Type 0
+HasMore text rows P = (more : List (List (List ℕ))) × (records default_config text ≡ rows ++ more) × P (length more)

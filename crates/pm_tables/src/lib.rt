@@ -9,6 +9,7 @@ mod keys;
 mod loading;
 mod reading;
 mod record_list;
+mod streaming;
 mod table;
 #[cfg(test)]
 mod tests;

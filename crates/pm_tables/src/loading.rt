@@ -6,9 +6,10 @@ ghost use Rattle.pm_tables.specs.Loading.{Answer, CallsFor, Faults, FaultsRecord
 ghost use Rattle.pm_tables.specs.Reading.{FaultsFile};
 
 use crate::fault::DataBad;
-use crate::reading::records;
+use crate::reading::{open, read_header};
+use crate::streaming::type_all;
 use crate::table::finish;
-use crate::typing::type_rows;
+use csv::StringRecord;
 use pm_values::{Rows, Table, TableDecl};
 use std::alloc::Global;
 
@@ -36,8 +37,11 @@ fn typed(alloc: Global, decl: &TableDecl, bytes: &[u8], most: u32) -> Result<Row
     ensures few { IfOk result (λ rows. length rows ≤ most) }
     ensures refused { IfErr result (λ e. FaultsFile decl.now.columns bytes.now most e ⊎ FaultsRecords decl.now bytes.now most e) }
 {
-    let list = records(alloc, decl, bytes, most)?;
-    type_rows(alloc, decl, &list, 0, list.len())
+    let columns = decl.columns().as_slice();
+    let mut reader = open(alloc, bytes);
+    let mut record = StringRecord::new(alloc);
+    read_header(&mut reader, &mut record, columns, bytes)?;
+    type_all(alloc, columns, &mut reader, &mut record, most)
 }
 
 /// What bytes call for is called for once: one table, or one refusal.

@@ -1,9 +1,9 @@
-ghost use Rattle.std.specs.Prelude.{◌≡◌, ◌≤◌, ◌++◌, ◌∷◌, ℕ, List, [], IfErr, IfOk, IsTrue, Some, ◌↔◌, slice_get, MatchOption, OnOk, length};
+ghost use Rattle.std.specs.Prelude.{◌≡◌, ◌≤◌, ◌<◌, ◌⊎◌, IsUtf8, ◌++◌, ◌∷◌, ℕ, List, [], IfErr, IfOk, IsTrue, Some, ◌↔◌, slice_get, MatchOption, OnOk, length};
 ghost use Rattle.csv.specs.Reading.{default_config, records, strip_bom};
 ghost use Rattle.csv.specs.Records.{fields_of};
-ghost use Rattle.pm_tables.specs.HasRead.{Continues, EndsTooLate, HasRead};
+ghost use Rattle.pm_tables.specs.HasRead.{Continues, EndsTooLate, HasMore, HasRead};
 ghost use Rattle.pm_tables.specs.Reading.{DiffersAt, FaultsFile, IsList, names_of};
-ghost use Rattle.pm_tables.specs.declared.fault.DataBad.TheVariants.{Memory};
+ghost use Rattle.pm_tables.specs.declared.fault.DataBad.TheVariants.{Memory, TooManyRows};
 
 use crate::fault::DataBad;
 use crate::record_list::Records;
@@ -21,18 +21,35 @@ pub fn records(alloc: Global, decl: &TableDecl, bytes: &[u8], most: u32) -> Resu
     ensures listed { IfOk result (IsList decl.now.columns bytes.now most) }
     ensures refused { IfErr result (FaultsFile decl.now.columns bytes.now most) }
 {
+    let mut reader = open(alloc, bytes);
+    let mut record = StringRecord::new(alloc);
+    read_header(&mut reader, &mut record, decl.columns().as_slice(), bytes)?;
+    gather(alloc, &mut reader, &mut record, most)
+}
+
+/// Reads the header of these bytes into `current`: it is the list of the column names, or the first fault is refused.
+pub(crate) fn read_header(
+    reader: &mut Reader<&[u8]>,
+    current: &mut StringRecord,
+    columns: &[ColumnDecl],
+    bytes: &[u8],
+) -> Result<(), DataBad>
+    requires narrow { length columns.now ≤ 64 }
+    requires start { HasRead (strip_bom bytes.now) [] reader.old }
+    ensures text { OnOk result (IsUtf8 bytes.now) }
+    ensures read { OnOk result (HasRead (strip_bom bytes.now) (names_of columns.now ∷ []) reader.new) }
+    ensures refused { (most : ℕ) → IfErr result (FaultsFile columns.now bytes.now most) }
+{
     if let Err(error) = str::from_utf8(bytes) {
         return Err(DataBad::NotText(error.valid_up_to() as u64));
     }
-    let mut reader = open(alloc, bytes);
-    let mut record = StringRecord::new(alloc);
-    if !next(&mut reader, &mut record)? {
+    if !next(reader, current)? {
         return Err(DataBad::NoHeader);
     }
-    if let Some(place) = first_difference(&record, decl.columns().as_slice()) {
-        return Err(DataBad::Header(place + 1));
+    match first_difference(current, columns) {
+        Some(place) => Err(DataBad::Header(place + 1)),
+        None => Ok(()),
     }
-    gather(alloc, &mut reader, &mut record, most)
 }
 
 /// The place, from 0, of the first column whose name is not the field there, or at which only one of both has ended.
@@ -99,8 +116,29 @@ fn push_fields(fields: &mut StringRecord, added: &StringRecord) -> Result<(), Al
     Ok(())
 }
 
+/// Reads all further records into `current`, one by one, and refuses more than `most` of them.
+pub(crate) fn pass_over(
+    reader: &mut Reader<&[u8]>,
+    current: &mut StringRecord,
+    most: u32,
+) -> Result<(), DataBad>
+    ensures ended { (text : List ℕ) (rows : List (List (List ℕ))) → HasRead text rows reader.old → OnOk result (HasMore text rows (λ count. count ≤ most)) }
+    ensures refused { (text : List ℕ) (rows : List (List (List ℕ))) → HasRead text rows reader.old
+        → IfErr result (λ e. (e ≡ Memory) ⊎ ((e ≡ TooManyRows) × HasMore text rows (λ count. most < count))) }
+{
+    for _ in 0..most {
+        if !next(reader, current)? {
+            return Ok(());
+        }
+    }
+    if next(reader, current)? {
+        return Err(DataBad::TooManyRows);
+    }
+    Ok(())
+}
+
 /// A reader of all records of these bytes, without one byte order mark at their front.
-fn open(alloc: Global, bytes: &[u8]) -> Reader<&[u8]>
+pub(crate) fn open(alloc: Global, bytes: &[u8]) -> Reader<&[u8]>
     ensures { HasRead (strip_bom bytes.now) [] result }
 {
     ReaderBuilder::new()
@@ -110,7 +148,7 @@ fn open(alloc: Global, bytes: &[u8]) -> Reader<&[u8]>
 }
 
 /// Whether there is a next record, which is put into `current`.
-fn next(reader: &mut Reader<&[u8]>, current: &mut StringRecord) -> Result<bool, DataBad>
+pub(crate) fn next(reader: &mut Reader<&[u8]>, current: &mut StringRecord) -> Result<bool, DataBad>
     ensures found { (text : List ℕ) (rows : List (List (List ℕ))) → HasRead text rows reader.old → IfOk result (λ found. Continues text rows reader.new found (fields_of current.new)) }
     ensures refused { IfErr result (λ e. e ≡ Memory) }
 {

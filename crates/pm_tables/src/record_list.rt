@@ -1,4 +1,4 @@
-ghost use Rattle.std.specs.Prelude.{◌≡◌, ◌==◌, ◌<◌, ◌^◌, ℕ, List, [], get_or, length};
+ghost use Rattle.std.specs.Prelude.{◌≡◌, ◌==◌, ◌<◌, ◌≤◌, ◌^◌, ℕ, List, [], get_or, length, slice_range};
 ghost use Rattle.csv.specs.Records.{Rising, fields_of, prev};
 ghost use Rattle.pm_tables.specs.Records.{cut};
 
@@ -50,26 +50,15 @@ impl Records {
         self.ends.is_empty()
     }
 
-    /// How many fields the record at this place has, from 0.
-    pub(crate) fn width(&self, at: u32) -> usize
+    /// The list of all fields, and where those of the record at this place, from 0, begin and end in it.
+    pub(crate) fn place(&self, at: u32) -> (&StringRecord, usize, usize)
         requires { at < length self.now }
-        ensures { result ≡ length (get_or self.now at []) }
+        ensures order { result.1 ≤ result.2 }
+        ensures within { result.2 ≤ length (fields_of result.0.now) }
+        ensures here { slice_range (fields_of result.0.now) result.1 result.2 ≡ get_or self.now at [] }
     {
         let (start, end) = bounds(self.ends.as_slice(), at as usize);
-        end - start
-    }
-
-    /// A field of the record at this place, both from 0.
-    pub(crate) fn field(&self, at: u32, column: usize) -> &str
-        requires record { at < length self.now }
-        requires field { column < length (get_or self.now at []) }
-        ensures { result.now ≡ get_or (get_or self.now at []) column [] }
-    {
-        let (start, _) = bounds(self.ends.as_slice(), at as usize);
-        match self.fields.get(start + column) {
-            Some(field) => field,
-            None => unreachable!(),
-        }
+        (&self.fields, start, end)
     }
 }
 

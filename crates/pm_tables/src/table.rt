@@ -1,15 +1,14 @@
 ghost use Rattle.std.specs.Prelude.{◌≡◌, ◌≢◌, ◌<◌, ◌≤◌, ◌+◌, ◌^◌, ℕ, All, IfErr, IfOk, MatchOption, get_or, length};
 ghost use Rattle.pm_values.specs.Order.{Ascends, IsKey, NamesColumns, chosen_at};
 ghost use Rattle.pm_values.specs.Table.{FitsColumns, HasScale};
-ghost use Rattle.pm_tables.specs.Keys.{AreChained, IsLatest, hash_at};
+ghost use Rattle.pm_tables.specs.Keys.{AreChained, IsLatest, bucket_at};
 ghost use Rattle.pm_tables.specs.Table.{FallsFirst, FaultsTable, HaveColumns, RepeatsFirst};
 
 use crate::fault::DataBad;
-use crate::keys::{agree, compare_chosen, key_hash};
+use crate::keys::{agree, bucket_of, compare_chosen, key_hash};
 use pm_values::{Row, Rows, Table, TableDecl};
 use std::alloc::Global;
 use std::cmp::Ordering;
-use std::collections::HashMap;
 
 /// The table of these rows, whose KEY and ORDER hold.
 ///
@@ -56,10 +55,12 @@ fn first_repeat(alloc: Global, rows: &[Row], columns: &[u32]) -> Result<Option<(
         (λ pair. (pair.0 < 2 ^ 24) × (pair.1 < 2 ^ 24) × RepeatsFirst columns.now rows.now pair.0 pair.1)) }
     ensures refused { IfErr result (λ e. e ≡ DataBad.Memory) }
 {
-    let mut latest: HashMap<u64, u32> = HashMap::with_capacity(alloc, rows.len())?;
+    let mut latest: Vec<Option<u32>> = vec![in alloc; None; rows.len()]?;
     let mut earlier: Vec<Option<u32>> = Vec::with_capacity(alloc, rows.len())?;
     for at in 0..rows.len() {
-        let start = latest.insert(key_hash(&rows[at], columns), at as u32)?;
+        let bucket = bucket_of(rows.len(), key_hash(&rows[at], columns));
+        let start = latest[bucket];
+        latest[bucket] = Some(at as u32);
         if let Some(first) = find_same(rows, columns, at as u32, start, earlier.as_slice()) {
             return Ok(Some((first, at as u32)));
         }
@@ -70,8 +71,8 @@ fn first_repeat(alloc: Global, rows: &[Row], columns: &[u32]) -> Result<Option<(
 
 /// An earlier row that agrees with the row at this place in these columns.
 ///
-/// The rows with its hash are walked down from the last of them, `start`; `earlier` has for each row the one before it
-/// with the same hash.
+/// The rows of its bucket are walked down from the last of them, `start`; `earlier` has for each row the one before it
+/// in the same bucket.
 fn find_same(
     rows: &[Row],
     columns: &[u32],
@@ -81,9 +82,9 @@ fn find_same(
 ) -> Option<u32>
     requires within { at < length rows.now }
     requires columns { HaveColumns columns.now rows.now }
-    requires start { IsLatest (hash_at columns.now rows.now) at (hash_at columns.now rows.now at) start }
+    requires start { IsLatest (bucket_at columns.now rows.now) at (bucket_at columns.now rows.now at) start }
     requires count { length earlier.now ≡ at }
-    requires chained { AreChained (hash_at columns.now rows.now) earlier.now }
+    requires chained { AreChained (bucket_at columns.now rows.now) earlier.now }
     ensures { MatchOption result ((j : ℕ) → j < at → chosen_at columns.now rows.now j ≢ chosen_at columns.now rows.now at)
         (λ i. (i < at) × (chosen_at columns.now rows.now i ≡ chosen_at columns.now rows.now at)) }
 {

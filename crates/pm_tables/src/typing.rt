@@ -1,10 +1,12 @@
 ghost use Rattle.std.specs.Prelude.{◌≡◌, ◌+◌, ◌^◌, ◌<◌, ◌≤◌, [], All, IfErr, IfOk, MatchResult, get_or, length, slice_range};
+ghost use Rattle.csv.specs.Records.{fields_of};
 ghost use Rattle.pm_values.specs.Table.{FitsColumns, HasScale};
 ghost use Rattle.pm_tables.specs.Typing.{FaultsFirst, FaultsRecord, WritesRow, WritesRows};
 
 use crate::fault::DataBad;
 use crate::field::field_value;
 use crate::record_list::Records;
+use csv::StringRecord;
 use pm_values::{ColumnDecl, Row, Rows, TableDecl};
 use std::alloc::Global;
 
@@ -29,27 +31,47 @@ pub fn type_rows(
     let columns = decl.columns().as_slice();
     let mut rows = Rows::new(alloc);
     for at in from..to {
-        rows.push(type_row(alloc, columns, list, at)?)?;
+        let (fields, start, end) = list.place(at);
+        rows.push(type_row(alloc, columns, fields, start, end, at + 1)?)?;
     }
     Ok(rows)
 }
 
-fn type_row(alloc: Global, columns: &[ColumnDecl], list: &Records, at: u32) -> Result<Row, DataBad>
+/// The row that these fields, from one place of a list up to below another, write as the record of this number.
+pub(crate) fn type_row(
+    alloc: Global,
+    columns: &[ColumnDecl],
+    fields: &StringRecord,
+    start: usize,
+    end: usize,
+    number: u32,
+) -> Result<Row, DataBad>
     requires narrow { length columns.now ≤ 64 }
     requires scales { All HasScale columns.now }
-    requires within { at < length list.now }
-    requires small { at + 1 < 2 ^ 32 }
-    ensures { MatchResult result (WritesRow columns.now (get_or list.now at [])) (FaultsRecord columns.now (get_or list.now at []) (at + 1)) }
+    requires order { start ≤ end }
+    requires within { end ≤ length (fields_of fields.now) }
+    ensures { MatchResult result (WritesRow columns.now (slice_range (fields_of fields.now) start end))
+        (FaultsRecord columns.now (slice_range (fields_of fields.now) start end) number) }
 {
-    if list.width(at) != columns.len() {
-        return Err(DataBad::Width(at + 1));
+    if end - start != columns.len() {
+        return Err(DataBad::Width(number));
     }
     let mut row = Row::new(alloc);
     for (place, column) in columns.iter().enumerate() {
-        match field_value(alloc, column, list.field(at, place))? {
+        match field_value(alloc, column, field_at(fields, start + place))? {
             Some(value) => row.push(value)?,
-            None => return Err(DataBad::Field(at + 1, place as u32 + 1)),
+            None => return Err(DataBad::Field(number, place as u32 + 1)),
         }
     }
     Ok(row)
+}
+
+fn field_at(fields: &StringRecord, at: usize) -> &str
+    requires { at < length (fields_of fields.now) }
+    ensures { result.now ≡ get_or (fields_of fields.now) at [] }
+{
+    match fields.get(at) {
+        Some(field) => field,
+        None => unreachable!(),
+    }
 }

@@ -1,30 +1,45 @@
-use Rattle.std.proofs.Common.{◌≡◌, get_or, [], length, refl, arith}
+use Rattle.std.proofs.Common.{◌≡◌, length, refl, arith, slice_range, sym, ◌∙◌}
+use Rattle.csv.specs.Records.{fields_of}
 use Rattle.pm_tables.specs.Field.{HasNoValue, HasValue}
+use Rattle.pm_tables.proofs.Cuts.{range_at, range_length}
 use Rattle.pm_tables.proofs.Rows.{lacks_here, writes_all, writes_more}
 use Rattle.pm_tables.proofs.typing.type_row.Goals as goal
 
+pub returns-then-end-start : goal.returns-then-end-start
+returns-then-end-start c =
+    let size = range_length (fields_of c.args.fields.now) c.args.start c.args.end c.requires.within in
+    (refl, λ e. c.if-end-start.true (sym size ∙ e))
+
 pub returns-in-None : goal.returns-in-None
 returns-in-None c =
-    let fields = get_or c.args.list.now c.args.at [] in
-    let width : length fields ≡ length c.args.columns.now = omega arith in
-    let none : HasNoValue c.index-columns-place.result c.field.result.now = rw c.in-None.is at c.in_ok-value.ensures in (
+    let all = fields_of c.args.fields.now in
+    let fields = slice_range all c.args.start c.args.end in
+    let size = range_length all c.args.start c.args.end c.requires.within in
+    let width : length fields ≡ length c.args.columns.now = omega (arith, size) in
+    let here = range_at all c.args.start c.args.end c.loop-place.place (omega arith) in
+    let none : HasNoValue c.index-columns-place.result c.field_at.result.now = rw c.in-None.is at c.in_ok-value.ensures in (
       refl,
       width,
       c.loop-place.place,
       refl,
       lacks_here c.args.columns.now fields c.loop-place.row c.loop-place.place c.index-columns-place.result
-          c.loop-place.invariant c.loop-place-test.true (omega arith) c.index-columns-place.is (rw (← c.field.ensures) none),
+          c.loop-place.invariant c.loop-place-test.true (omega (arith, width)) c.index-columns-place.is (rw (here, ← c.field_at.ensures) none),
     )
 
 pub loop-place-preserved : goal.loop-place-preserved
 loop-place-preserved c =
-    let fields = get_or c.args.list.now c.args.at [] in
-    let width : length fields ≡ length c.args.columns.now = omega arith in
-    let has : HasValue c.index-columns-place.result c.field.result.now c.in-Some.value = rw c.in-Some.is at c.in_ok-value.ensures in
+    let all = fields_of c.args.fields.now in
+    let fields = slice_range all c.args.start c.args.end in
+    let size = range_length all c.args.start c.args.end c.requires.within in
+    let width : length fields ≡ length c.args.columns.now = omega (arith, size) in
+    let here = range_at all c.args.start c.args.end c.loop-place.place (omega arith) in
+    let has : HasValue c.index-columns-place.result c.field_at.result.now c.in-Some.value = rw c.in-Some.is at c.in_ok-value.ensures in
     rw c.in_ok-push-in-Some.ensures.ok (writes_more c.args.columns.now fields c.loop-place.row c.loop-place.place c.index-columns-place.result c.in-Some.value
-    c.loop-place.invariant c.loop-place-test.true (omega arith) c.index-columns-place.is (rw (← c.field.ensures) has))
+    c.loop-place.invariant c.loop-place-test.true (omega (arith, width)) c.index-columns-place.is (rw (here, ← c.field_at.ensures) has))
 
 pub returns : goal.returns
 returns c =
-    let fields = get_or c.args.list.now c.args.at [] in
-    writes_all c.args.columns.now fields c.loop-place.row c.loop-place.place (omega arith) (omega arith) c.loop-place.invariant
+    let all = fields_of c.args.fields.now in
+    let fields = slice_range all c.args.start c.args.end in
+    let size = range_length all c.args.start c.args.end c.requires.within in
+    writes_all c.args.columns.now fields c.loop-place.row c.loop-place.place (omega arith) (omega (arith, size)) c.loop-place.invariant
