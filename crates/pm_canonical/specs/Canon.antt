@@ -1,6 +1,6 @@
 -- The canonical text of a statement.
-use Rattle.std.specs.Prelude.{ℕ, ℤ, Bool, true, false, not, ◌==◌, ◌&&◌, ◌-◌, ◌+◌, List, [], ◌∷◌, ◌++◌, Option, Some, None, if◌then◌else◌, codes, is_some, length, take, drop, map, replicate, decimal, unsigned_abs, int_lt, pos}
-use Rattle.std.specs.List.{flat_map, list_all}
+use Rattle.std.specs.Prelude.{ℕ, ℤ, Bool, true, false, not, ◌==◌, ◌-◌, ◌+◌, List, [], ◌∷◌, ◌++◌, Option, Some, None, if◌then◌else◌, codes, length, take, drop, map, replicate, decimal, unsigned_abs, int_lt, pos}
+use Rattle.std.specs.List.{flat_map}
 use Rattle.pm_lexer.specs.Quoting.{quoted, canon_name}
 use Rattle.pm_syntax.specs.declared.tree.PlacedName.{PlacedName}
 use Rattle.pm_syntax.specs.declared.tree.ColumnName.{ColumnName}
