@@ -67,5 +67,4 @@ pub fn read_schema(alloc: Global, tokens: &Tokens) -> Result<Schema, SchemaBad>
 pub fn answers_once()
     ensures some { (tokens : List Token) → (answer : Result (List Declaration) SchemaBad) × CallsFor tokens answer }
     ensures one { (tokens : List Token) (a b : Result (List Declaration) SchemaBad) → CallsFor tokens a → CallsFor tokens b → a ≡ b }
-{
-}
+{}
