@@ -15,6 +15,7 @@ pub mod terminals;
 mod tests;
 pub mod tree;
 pub mod words;
+pub mod worked;
 
 pub use fault::SynBad;
 pub use printing::print;
