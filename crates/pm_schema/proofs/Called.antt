@@ -2,6 +2,7 @@
 use Rattle.std.proofs.Common.{◌≡◌, ◌≤◌, ◌⊎◌, ℕ, List, ◌∷◌, Option, Some, None, Result, Ok, Err, IfOk, IsErrOf, arith, length, refl, sym, ◌∙◌, ap, inl, inr}
 use Rattle.std.proofs.lemmas.List.{length-map}
 use Rattle.pm_lexer.specs.declared.token.Token.{Token}
+use Rattle.pm_lexer.specs.Tokens.{tokens_of}
 use Rattle.pm_lexer.specs.Reading.{Stop, expected, too_deep, too_many, whole}
 use Rattle.pm_lexer.specs.Answers.{within, TooDeepIn, CallsFor as Calls}
 use Rattle.pm_lexer.proofs.Phrases.{Law, Nothing}
@@ -19,6 +20,7 @@ use Rattle.pm_schema.specs.Reading.{schema_at}
 use Rattle.pm_schema.specs.Rules.{first_breach}
 use Rattle.pm_schema.specs.Answers.{SchemaPhrase, Reads}
 use Rattle.pm_schema.specs.Meaning.{declared, declared_table, Declares, CallsFor, refusal, refusal_by, Judges}
+use Rattle.pm_schema.specs.Worked.{TextCallsFor}
 use Rattle.pm_schema.proofs.TableReaders.{schema_law}
 
 reading_law : (tokens : List Token) → Law Nothing SchemaPhrase 0 (keyed tokens) (schema_at (keyed tokens))
@@ -40,7 +42,7 @@ abbrev judged_by : Option Breach → List TableText → Result (List Declaration
 judged_by None tables = Ok (declared tables)
 judged_by (Some breach) tables = Err (refusal breach)
 
-abbrev answer_of : Result (List TableText) Stop → Result (List Declaration) SchemaBad
+abbrev pub answer_of : Result (List TableText) Stop → Result (List Declaration) SchemaBad
 answer_of (Ok tables) = judged_by (first_breach tables) tables
 answer_of (Err (expected p)) = Err (bad.Expected p)
 answer_of (Err (too_many p)) = Err (bad.TooMany p)
@@ -61,6 +63,10 @@ answer_called tokens (Ok tables) calls = tables_called tokens tables calls (firs
 answer_called tokens (Err (expected p)) calls = calls
 answer_called tokens (Err (too_many p)) calls = calls
 answer_called tokens (Err (too_deep p)) calls = absurd (never_deep (keyed tokens) p calls)
+
+-- what a text calls for whose tokens are read and judged like this
+pub text_calls : (text : List ℕ) (tokens : List Token) (answer : Result (List Declaration) SchemaBad) → tokens_of text ≡ Ok tokens → answer_of (whole (schema_at (keyed tokens))) ≡ answer → TextCallsFor text answer
+text_calls text tokens answer lexed judged = (tokens, lexed, rw judged at (answer_called tokens (whole (schema_at (keyed tokens))) (whole_calls tokens)))
 
 -- an answer is to something that was read
 abbrev Read : List Token → Result (List Declaration) SchemaBad → Type 0

@@ -4,3 +4,4 @@ pub mod Reading
 pub mod Answers
 pub mod Rules
 pub mod Meaning
+pub mod Worked

@@ -13,6 +13,7 @@ pub mod schema;
 pub mod tables;
 pub mod terminals;
 pub mod tree;
+pub mod worked;
 
 pub use fault::SchemaBad;
 pub use schema::{Schema, answers_once, read_schema};

@@ -1,6 +1,7 @@
 -- The tokens of a text call for one answer, and reading gives it.
-use Rattle.std.proofs.Common.{◌≡◌, ◌⊎◌, List, Result, Ok, Err, IsErrOf, refl, sym, ◌∙◌, ap, inl, inr}
+use Rattle.std.proofs.Common.{◌≡◌, ◌⊎◌, ℕ, List, Result, Ok, Err, IsErrOf, refl, sym, ◌∙◌, ap, inl, inr}
 use Rattle.pm_lexer.specs.declared.token.Token.{Token}
+use Rattle.pm_lexer.specs.Tokens.{tokens_of}
 use Rattle.pm_lexer.specs.Reading.{Stop, expected, too_deep, too_many, whole}
 use Rattle.pm_lexer.specs.Answers.{CallsFor as Calls}
 use Rattle.pm_lexer.proofs.Phrases.{Law, Nothing}
@@ -12,6 +13,7 @@ use Rattle.pm_syntax.specs.declared.fault.SynBad.TheVariants as bad
 use Rattle.pm_syntax.specs.Grammar.{IsSelect}
 use Rattle.pm_syntax.specs.Reading.{select_at, Gives}
 use Rattle.pm_syntax.specs.Statement.{CallsFor}
+use Rattle.pm_syntax.specs.Worked.{TextCallsFor}
 use Rattle.pm_syntax.proofs.SelectReaders.{select_reader}
 
 select_law : (tokens : List Token) → Law Nothing IsSelect 32 tokens (select_at 32 tokens)
@@ -21,7 +23,7 @@ whole_calls : (tokens : List Token) → Calls IsSelect 32 tokens (whole (select_
 whole_calls tokens = law_calls IsSelect 32 tokens (select_at 32 tokens) (select_law tokens)
 
 -- an answer to tokens in the words of this crate
-abbrev answer_of : Result Select Stop → Result Select SynBad
+abbrev pub answer_of : Result Select Stop → Result Select SynBad
 answer_of (Ok select) = Ok select
 answer_of (Err (expected p)) = Err (bad.Expected p)
 answer_of (Err (too_deep p)) = Err (bad.TooDeep p)
@@ -32,6 +34,10 @@ answer_called tokens (Ok select) calls = calls
 answer_called tokens (Err (expected p)) calls = calls
 answer_called tokens (Err (too_deep p)) calls = calls
 answer_called tokens (Err (too_many p)) calls = calls
+
+-- what a text calls for whose tokens are read like this
+pub text_calls : (text : List ℕ) (tokens : List Token) (answer : Result Select SynBad) → tokens_of text ≡ Ok tokens → answer_of (whole (select_at 32 tokens)) ≡ answer → TextCallsFor text answer
+text_calls text tokens answer lexed read = (tokens, lexed, rw read at (answer_called tokens (whole (select_at 32 tokens)) (whole_calls tokens)))
 
 called_answer : (tokens : List Token) (answer : Result Select SynBad) → CallsFor tokens answer → (read : Result Select Stop) × (answer ≡ answer_of read) × Calls IsSelect 32 tokens read
 called_answer tokens (Ok select) calls = (Ok select, refl, calls)

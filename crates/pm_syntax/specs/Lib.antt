@@ -2,3 +2,4 @@ pub mod Grammar
 pub mod Terminals
 pub mod Reading
 pub mod Statement
+pub mod Worked

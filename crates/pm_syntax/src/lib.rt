@@ -13,6 +13,7 @@ pub mod terminals;
 #[cfg(test)]
 mod tests;
 pub mod tree;
+pub mod worked;
 
 pub use fault::SynBad;
 pub use statement::{answers_once, parse};
