@@ -55,10 +55,11 @@ fn first_repeat(alloc: Global, rows: &[Row], columns: &[u32]) -> Result<Option<(
         (λ pair. (pair.0 < 2 ^ 24) × (pair.1 < 2 ^ 24) × RepeatsFirst columns.now rows.now pair.0 pair.1)) }
     ensures refused { IfErr result (λ e. e ≡ DataBad.Memory) }
 {
-    let mut latest: Vec<Option<u32>> = vec![in alloc; None; rows.len()]?;
+    let count = rows.len() * 2;
+    let mut latest: Vec<Option<u32>> = vec![in alloc; None; count + 64]?;
     let mut earlier: Vec<Option<u32>> = Vec::with_capacity(alloc, rows.len())?;
     for at in 0..rows.len() {
-        let bucket = bucket_of(rows.len(), key_hash(&rows[at], columns));
+        let bucket = bucket_of(count, key_hash(&rows[at], columns));
         let start = latest[bucket];
         latest[bucket] = Some(at as u32);
         if let Some(first) = find_same(rows, columns, at as u32, start, earlier.as_slice()) {

@@ -1,4 +1,4 @@
-use Rattle.std.proofs.Common.{◌≡◌, ◌≤◌, ◌<◌, None, ap, arith, get_or, length}
+use Rattle.std.proofs.Common.{◌*◌, ◌≡◌, ◌≤◌, ◌<◌, None, ap, arith, get_or, length}
 use Rattle.pm_tables.specs.Keys.{bucket, bucket_at, values_hash}
 use Rattle.pm_tables.proofs.Walks.{before, latest_has, latest_left, row_at}
 use Rattle.pm_tables.proofs.table.find_same.Goals as goal
@@ -8,7 +8,7 @@ loop-next-init c =
     let hash = bucket_at c.args.columns.now c.args.rows.now in
     record {
       low = latest_has hash c.args.at c.args.at (hash c.args.at) c.args.start (omega arith) c.requires.start;
-      left = λ j lt same. latest_left hash c.args.at (hash c.args.at) c.args.start j c.requires.start lt (ap (λ key. bucket (length c.args.rows.now) (values_hash 0 key)) same);
+      left = λ j lt same. latest_left hash c.args.at (hash c.args.at) c.args.start j c.requires.start lt (ap (λ key. bucket (length c.args.rows.now * 2) (values_hash 0 key)) same);
     }
 
 pub agree-requires-clause-right : goal.agree-requires-clause-right
@@ -33,5 +33,5 @@ loop-next-preserved c =
       left = λ j lt same.
           let le : j ≤ i = rw c.in-Some.is at (c.loop-next.invariant.left j lt same) in
           let other : j ≡ i → ⊥ = λ e. let yes = told.1 (rw e at same) in let no = c.if-agree.false in cc in
-          latest_left hash i (hash c.args.at) (get_or c.args.earlier.now i None) j latest (before i j le other) (ap (λ key. bucket (length c.args.rows.now) (values_hash 0 key)) same);
+          latest_left hash i (hash c.args.at) (get_or c.args.earlier.now i None) j latest (before i j le other) (ap (λ key. bucket (length c.args.rows.now * 2) (values_hash 0 key)) same);
     }
