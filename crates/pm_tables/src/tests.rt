@@ -3,6 +3,9 @@ ghost use Rattle.pm_values.specs.Order.{NamesColumns};
 ghost use Rattle.pm_values.specs.Table.{HasScale, IsScale};
 
 use crate::loading::load;
+use crate::reading::records;
+use crate::record_list::Records;
+use crate::typing::type_rows;
 use pm_values::{ColumnDecl, ColumnDecls, Columns, Kind, Table, TableDecl, Txt, Value};
 use std::alloc::{AllocError, Global};
 use std::test::Fail;
@@ -142,5 +145,47 @@ fn files_with_a_key(rt: HostRuntime) -> Result<(), Fail> {
     }
     let decl = declared(alloc, Kind::Int, Kind::Text, false, false)?;
     assert_eq!(rt; answer(alloc, decl, b"p,q\n\xff")?.as_str(), "NotText(4)");
+    Ok(())
+}
+
+// The values of the records from one place up to another.
+fn typed(alloc: Global, decl: &TableDecl, list: &Records, from: u32) -> Result<String, AllocError> {
+    let to = list.len();
+    if from > to {
+        return String::from_str(alloc, "none");
+    }
+    match type_rows(alloc, decl, list, from, to) {
+        Ok(rows) => format!(in alloc; "{} of {to}", rows.len()),
+        Err(e) => format!(in alloc; "{e:?}"),
+    }
+}
+
+// What the records of a file are, without the first.
+fn listed(alloc: Global, decl: &TableDecl, bytes: &[u8]) -> Result<String, AllocError> {
+    match records(alloc, decl, bytes, 5) {
+        Ok(list) => typed(alloc, decl, &list, 1),
+        Err(e) => format!(in alloc; "{e:?}"),
+    }
+}
+
+#[test]
+fn records_are_listed_and_typed_in_parts(rt: HostRuntime) -> Result<(), Fail> {
+    let alloc = rt.alloc();
+    let decl = declared(alloc, Kind::Num(2), Kind::Int, false, false)?;
+    for (text, want) in [
+        ("", "NoHeader"),
+        ("p,r\n", "Header(2)"),
+        ("p,q\n1,2\n1,2\n1,2\n1,2\n1,2\n1,2\n", "TooManyRows"),
+        ("p,q\nx\n1,2\n3,4\n", "2 of 3"),
+        ("p,q\nx\n1,2\n3,\n", "Field(3, 2)"),
+        ("p,q\n1,2\n1,2,3\n", "Width(2)"),
+        ("p,q\n", "none"),
+    ] {
+        assert_eq!(rt;
+            listed(alloc, &decl, text.as_bytes())?.as_str(),
+            want,
+            "{text}"
+        );
+    }
     Ok(())
 }
