@@ -2,7 +2,7 @@
 use Rattle.std.proofs.Common.{◌≡◌, ℕ, Bool, List, map, sym, ap, ◌∙◌}
 use Rattle.pm_syntax.specs.declared.tree.Literal.{Literal}
 use Rattle.pm_syntax.specs.declared.tree.Atom.{Atom}
-use Rattle.pm_syntax.specs.declared.tree.Comparison.{Comparison}
+use Rattle.pm_values.specs.declared.condition.Comparison.{Comparison}
 use Rattle.pm_syntax.specs.declared.tree.Test.{Test, fold-Test}
 use Rattle.pm_syntax.specs.declared.tree.Test.TheVariants as test
 use Rattle.pm_syntax.specs.declared.tree.Test.TheOpen.{Test-F}

@@ -6,8 +6,8 @@ use Rattle.pm_lexer.specs.Symbol.{is, symbol_of, symbol_at, canonical_sign}
 use Rattle.pm_lexer.specs.Language.{Lang, Is, IsList, never}
 use Rattle.pm_syntax.specs.declared.tree.Literal.{Literal}
 use Rattle.pm_syntax.specs.declared.tree.Atom.{Atom}
-use Rattle.pm_syntax.specs.declared.tree.Comparison.{Comparison}
-use Rattle.pm_syntax.specs.declared.tree.Comparison.TheVariants as comparison
+use Rattle.pm_values.specs.declared.condition.Comparison.{Comparison}
+use Rattle.pm_values.specs.declared.condition.Comparison.TheVariants as comparison
 use Rattle.pm_syntax.specs.declared.tree.Test.{Test}
 use Rattle.pm_syntax.specs.declared.tree.Test.TheVariants as test
 use Rattle.pm_syntax.specs.Terminals.{comparison_of, comparison_of_symbol, compares}

@@ -19,8 +19,8 @@ use Rattle.pm_syntax.specs.declared.tree.Literal.{Literal}
 use Rattle.pm_syntax.specs.declared.tree.Literal.TheVariants as literal
 use Rattle.pm_syntax.specs.declared.tree.Atom.{Atom}
 use Rattle.pm_syntax.specs.declared.tree.Atom.TheVariants as atom
-use Rattle.pm_syntax.specs.declared.tree.Comparison.{Comparison}
-use Rattle.pm_syntax.specs.declared.tree.Comparison.TheVariants as comparison
+use Rattle.pm_values.specs.declared.condition.Comparison.{Comparison}
+use Rattle.pm_values.specs.declared.condition.Comparison.TheVariants as comparison
 use Rattle.pm_lexer.specs.Quoting.{quoted, is_plain, canon_name}
 use Rattle.pm_canonical.specs.Canon.{joined, canon_alias, canon_column, canon_func, canon_expr, pointed, padded, canon_number, canon_literal, canon_atom, canon_comparison}
 use Rattle.pm_canonical.proofs.Shapes.{Shape, sign, between, shape_name, shapes_alias, shapes_column, shape_func, shapes_expr, shape_digits, shapes_number, shapes_literal, shapes_atom, shape_comparison}

@@ -10,7 +10,7 @@ use Rattle.pm_syntax.specs.declared.tree.Expr.TheVariants as expr
 use Rattle.pm_syntax.specs.declared.tree.Literal.TheVariants as literal
 use Rattle.pm_syntax.specs.declared.tree.Atom.{Atom}
 use Rattle.pm_syntax.specs.declared.tree.Atom.TheVariants as atom
-use Rattle.pm_syntax.specs.declared.tree.Comparison.TheVariants as comparison
+use Rattle.pm_values.specs.declared.condition.Comparison.TheVariants as comparison
 use Rattle.pm_syntax.specs.declared.tree.Test.TheVariants as test
 use Rattle.pm_syntax.specs.Terminals.{named, func_of, magnitude, comparison_of, compares}
 use Rattle.pm_syntax.specs.Grammar.{IsName, IsColumn, counts, IsCountAll, IsCall, IsExpr, IsLiteral, IsTerm, IsOperand, IsOptional, IsCompare, IsNullTest, IsIn, IsBetween, IsTest, IsGiven}

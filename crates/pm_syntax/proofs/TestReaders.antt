@@ -12,7 +12,7 @@ use Rattle.pm_lexer.proofs.Readers.{Then, Or, pure_reader, then_reader, then_beg
 use Rattle.pm_lexer.proofs.Lists.{Peek}
 use Rattle.pm_lexer.proofs.Firsts.{BeginsWith, bars, not_both}
 use Rattle.pm_lexer.proofs.Furthers.{choice_reader, behind_reader, list_reader, token_peek}
-use Rattle.pm_syntax.specs.declared.tree.Comparison.TheVariants as comparison
+use Rattle.pm_values.specs.declared.condition.Comparison.TheVariants as comparison
 use Rattle.pm_syntax.specs.declared.tree.Literal.TheVariants as literal
 use Rattle.pm_syntax.specs.declared.tree.Atom.{Atom}
 use Rattle.pm_syntax.specs.declared.tree.Atom.TheVariants as atom

@@ -12,8 +12,8 @@ use Rattle.pm_lexer.specs.Pieces.{content_of}
 use Rattle.pm_syntax.specs.declared.tree.PlacedName.{PlacedName}
 use Rattle.pm_syntax.specs.declared.tree.Func.{Func}
 use Rattle.pm_syntax.specs.declared.tree.Func.TheVariants as func
-use Rattle.pm_syntax.specs.declared.tree.Comparison.{Comparison}
-use Rattle.pm_syntax.specs.declared.tree.Comparison.TheVariants as comparison
+use Rattle.pm_values.specs.declared.condition.Comparison.{Comparison}
+use Rattle.pm_values.specs.declared.condition.Comparison.TheVariants as comparison
 
 -- a name with its place
 abbrev pub named : Token → PlacedName

@@ -1,4 +1,4 @@
-use pm_values::Txt;
+use pm_values::{Comparison, Txt};
 
 /// A name without its outer quotes, each doubled quote once, and its place, a byte offset from 0.
 #[derive(Debug, Drop)]
@@ -85,17 +85,6 @@ pub type Literals = pm_values::Items<Literal>;
 pub enum Atom {
     Expr(Expr),
     Literal(Literal),
-}
-
-/// How two operands are compared.
-#[derive(Clone, Copy, Debug, PartialEq, Eq)]
-pub enum Comparison {
-    Equal,
-    Unequal,
-    Less,
-    AtMost,
-    Greater,
-    AtLeast,
 }
 
 /// A condition. `Any` and `All` are lists of two or more members between OR and AND. `at` is the place of the

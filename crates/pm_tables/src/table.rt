@@ -1,5 +1,5 @@
 ghost use Rattle.std.specs.Prelude.{◌≡◌, ◌≢◌, ◌<◌, ◌≤◌, ◌+◌, ◌^◌, ℕ, All, IfErr, IfOk, MatchOption, get_or, length};
-ghost use Rattle.pm_values.specs.Order.{Ascends, IsKey, NamesColumns, chosen_at};
+ghost use Rattle.pm_values.specs.Order.{Ascends, IsKey, NamesColumns, pick_at};
 ghost use Rattle.pm_values.specs.Table.{FitsColumns, HasScale};
 ghost use Rattle.pm_tables.specs.Keys.{AreChained, IsLatest, bucket_at};
 ghost use Rattle.pm_tables.specs.Table.{FallsFirst, FaultsTable, HaveColumns, RepeatsFirst};
@@ -86,8 +86,8 @@ fn find_same(
     requires start { IsLatest (bucket_at columns.now rows.now) at (bucket_at columns.now rows.now at) start }
     requires count { length earlier.now ≡ at }
     requires chained { AreChained (bucket_at columns.now rows.now) earlier.now }
-    ensures { MatchOption result ((j : ℕ) → j < at → chosen_at columns.now rows.now j ≢ chosen_at columns.now rows.now at)
-        (λ i. (i < at) × (chosen_at columns.now rows.now i ≡ chosen_at columns.now rows.now at)) }
+    ensures { MatchOption result ((j : ℕ) → j < at → pick_at columns.now rows.now j ≢ pick_at columns.now rows.now at)
+        (λ i. (i < at) × (pick_at columns.now rows.now i ≡ pick_at columns.now rows.now at)) }
 {
     let mut next = start;
     while let Some(i) = next {

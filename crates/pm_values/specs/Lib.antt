@@ -1,3 +1,6 @@
+pub mod Row
 pub mod Order
+pub mod Equality
+pub mod Condition
 pub mod Table
 pub mod ValueText

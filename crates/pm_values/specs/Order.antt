@@ -6,6 +6,7 @@ use Rattle.std.specs.Ordering.{int_cmp, nat_cmp}
 use Rattle.std.specs.Cmp.Lexicographic.{slice_cmp}
 use Rattle.pm_values.specs.declared.value.Value.{Value}
 use Rattle.pm_values.specs.declared.value.Value.TheVariants as value
+use Rattle.pm_values.specs.Row.{pick}
 
 -- NULL comes first, then numbers by size, then texts by their bytes
 abbrev pub value_cmp : Value → Value → Ordering
@@ -23,21 +24,17 @@ value_cmp (value.Text s) (value.Text t) = slice_cmp nat_cmp s t
 abbrev pub values_cmp : List Value → List Value → Ordering
 values_cmp = slice_cmp value_cmp
 
--- the values of chosen columns of a row
-abbrev pub chosen : List ℕ → List Value → List Value
-chosen columns row = map (λ column. get_or row column value.Null) columns
-
 -- the chosen columns of the row at a place, from 0
-abbrev pub chosen_at : List ℕ → List (List Value) → ℕ → List Value
-chosen_at columns rows at = chosen columns (get_or rows at [])
+abbrev pub pick_at : List ℕ → List (List Value) → ℕ → List Value
+pick_at columns rows at = pick columns (get_or rows at [])
 
 -- no two rows agree in all of these columns
 abbrev pub IsKey : List ℕ → List (List Value) → Type 0
-IsKey columns rows = (i j : ℕ) → i < j → j < length rows → chosen_at columns rows i ≢ chosen_at columns rows j
+IsKey columns rows = (i j : ℕ) → i < j → j < length rows → pick_at columns rows i ≢ pick_at columns rows j
 
 -- the rows ascend by these columns; neighbours may be equal
 abbrev pub Ascends : List ℕ → List (List Value) → Type 0
-Ascends columns rows = (i : ℕ) → suc i < length rows → values_cmp (chosen_at columns rows i) (chosen_at columns rows (suc i)) ≢ ordering.Greater
+Ascends columns rows = (i : ℕ) → suc i < length rows → values_cmp (pick_at columns rows i) (pick_at columns rows (suc i)) ≢ ordering.Greater
 
 -- KEY, where there is one, holds of the rows
 abbrev pub KeyHolds : Option (List ℕ) → List (List Value) → Type 0

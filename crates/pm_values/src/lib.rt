@@ -4,6 +4,7 @@
 //! and its rows. A table keeps in its type that its rows are what its declaration says.
 #![tactic(auto)]
 
+pub mod condition;
 pub mod gate;
 pub mod items;
 pub mod order;
@@ -12,6 +13,7 @@ pub mod table;
 pub mod text;
 pub mod value;
 
+pub use condition::{Comparison, Cond, Conds, Operand, Truth};
 pub use gate::{Gate, OpenGate};
 pub use items::{Bytes, Columns, Items, Names};
 pub use order::compare;

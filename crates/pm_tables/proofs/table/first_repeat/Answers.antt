@@ -1,6 +1,6 @@
 use Rattle.std.proofs.Common.{◌*◌, ◌+◌, ◌≡◌, ◌∙◌, ◌∷◌, [], ap, arith, length, ◌<◌}
 use Rattle.std.proofs.lemmas.List.{length-append, length-set}
-use Rattle.pm_values.specs.Order.{chosen}
+use Rattle.pm_values.specs.Row.{pick}
 use Rattle.pm_tables.specs.Keys.{IsLatest, bucket, bucket_at, values_hash}
 use Rattle.pm_tables.proofs.Walks.{chained_push, distinct_next, head_at, heads_next, row_at}
 use Rattle.pm_tables.proofs.table.first_repeat.Goals as goal
@@ -16,7 +16,7 @@ find_same-requires-clause-start c =
     let n = c.loop-at.at in
     let row = row_at rows n c.index-rows-at.result c.loop-at-test.true c.index-rows-at.is in
     let key : c.bucket_of-bucket.result ≡ buckets n = c.bucket_of-bucket.ensures.value
-    ∙ ap (bucket (length rows * 2)) (c.key_hash.ensures ∙ ap (λ r. values_hash 0 (chosen c.args.columns.now r)) row) in
+    ∙ ap (bucket (length rows * 2)) (c.key_hash.ensures ∙ ap (λ r. values_hash 0 (pick c.args.columns.now r)) row) in
     let within : c.bucket_of-bucket.result < length c.loop-at.latest.items = omega (arith, c.bucket_of-bucket.ensures.within, c.loop-at.invariant.all) in
     let head = head_at c.loop-at.latest.items c.bucket_of-bucket.result c.index-start.result.now within c.index-start.ensures in
     rw (head, ← key) (c.loop-at.invariant.heads c.bucket_of-bucket.result c.bucket_of-bucket.ensures.within)
@@ -29,7 +29,7 @@ loop-at-preserved c =
     let latest = c.loop-at.latest.items in
     let row = row_at rows n c.index-rows-at.result c.loop-at-test.true c.index-rows-at.is in
     let key : c.bucket_of-bucket.result ≡ buckets n = c.bucket_of-bucket.ensures.value
-    ∙ ap (bucket (length rows * 2)) (c.key_hash.ensures ∙ ap (λ r. values_hash 0 (chosen c.args.columns.now r)) row) in
+    ∙ ap (bucket (length rows * 2)) (c.key_hash.ensures ∙ ap (λ r. values_hash 0 (pick c.args.columns.now r)) row) in
     let within : c.bucket_of-bucket.result < length latest = omega (arith, c.bucket_of-bucket.ensures.within, c.loop-at.invariant.all) in
     let head = head_at latest c.bucket_of-bucket.result c.index-start.result.now within c.index-start.ensures in
     let start : IsLatest buckets n (buckets n) c.index-start.result.now =
