@@ -6,10 +6,10 @@ use crate::numerals::put_number;
 use crate::words::{comparison_word, put_column, put_expr};
 use pm_lexer::{put_name, put_quoted};
 use pm_syntax::{
-    Atom, ColumnName, Comparison, Item, Items, Literal, Literals, OrderItem, PlacedName, Select,
+    Atom, ColumnName, Item, Items, Literal, Literals, OrderItem, PlacedName, Select,
     Source, Test,
 };
-use pm_values::Txt;
+use pm_values::{Comparison, Txt};
 use std::alloc::{AllocError, Global};
 
 #[tactic(auto, unfolding(crate::specs::Canon::canon_literal))]

@@ -4,7 +4,8 @@ ghost use Rattle.pm_lexer.specs.Quoting.{doubled, quoted, is_plain, canon_name};
 ghost use Rattle.pm_canonical.specs.Canon.{canon_alias, canon_column, canon_func, canon_expr, canon_number, canon_literal, canon_atom, canon_comparison, canon_given, pointed};
 
 use pm_lexer::put_name;
-use pm_syntax::{ColumnName, Comparison, Expr, Func, PlacedName};
+use pm_syntax::{ColumnName, Expr, Func, PlacedName};
+use pm_values::Comparison;
 use std::alloc::AllocError;
 
 fn put_alias(out: &mut String, alias: &Option<PlacedName>) -> Result<(), AllocError>

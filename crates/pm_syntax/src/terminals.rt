@@ -8,7 +8,8 @@ ghost use Rattle.pm_syntax.specs.Terminals.{named, func_named, func_of, comparis
 ghost use Rattle.pm_syntax.specs.Reading.{Gives, optional_at, name_at};
 
 use crate::fault::SynBad;
-use crate::tree::{Comparison, Func, PlacedName};
+use crate::tree::{Func, PlacedName};
+use pm_values::Comparison;
 use pm_lexer::{Symbol, Token, TokenKind, content};
 use std::alloc::Global;
 
