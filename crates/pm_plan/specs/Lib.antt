@@ -1,8 +1,11 @@
 pub mod Rows
+pub mod Joins
+pub mod Sorting
+pub mod Grouping
 pub mod Tree
+pub mod Preorder
 pub mod Outputs
-pub mod Events
-pub mod Moments
-pub mod Fits
-pub mod Answer
+pub mod Kinds
+pub mod Unique
+pub mod Right
 pub mod Worked

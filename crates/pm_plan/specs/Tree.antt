@@ -1,58 +1,61 @@
--- a plan as a tree, and the list of its nodes in preorder
-use Rattle.std.specs.Prelude.{◌≡◌, ℕ, ◌+◌, ◌-◌, List, [], ◌∷◌, slice_get, Some}
+-- a plan as a tree. A Seek is a part of its Index, and its number follows the last of the left side
+use Rattle.std.specs.Prelude.{ℕ, ◌+◌, List, Option}
+use Rattle.pm_values.specs.declared.condition.Cond.{Cond}
 use Rattle.pm_plan.specs.declared.plan.Label.{Label}
-use Rattle.pm_plan.specs.declared.plan.Node.{Node}
-use Rattle.pm_plan.specs.declared.plan.Node.TheVariants as node
+use Rattle.pm_plan.specs.declared.plan.Pair.{Pair}
+use Rattle.pm_plan.specs.declared.plan.Unique.{Unique}
+use Rattle.pm_plan.specs.declared.plan.SortKey.{SortKey}
+use Rattle.pm_plan.specs.declared.plan.Aggregate.{Aggregate}
+
+pub record Seek : Type 0 where
+  pub table : ℕ
+  pub label : Label
+  pub pairs : List Pair
+  pub unique : Unique
 
 pub data Tree : Type 0 where
   Scan : (table : ℕ) (label : Label) → Tree
+  Filter : (child : Tree) (cond : Cond) → Tree
   Project : (child : Tree) (columns : List ℕ) → Tree
+  Sort : (child : Tree) (keys : List SortKey) → Tree
+  Group : (child : Tree) (keys : List ℕ) (items : List Aggregate) → Tree
+  Hash : (left right : Tree) (pairs : List Pair) (unique : Unique) → Tree
+  Merge : (left right : Tree) (pairs : List Pair) (unique : Unique) → Tree
+  Index : (left : Tree) (seek : Seek) (cond : Option Cond) → Tree
 
 -- how many nodes it has
 abbrev pub size : Tree → ℕ
 size (Scan table label) = 1
+size (Filter child cond) = 1 + size child
 size (Project child columns) = 1 + size child
+size (Sort child keys) = 1 + size child
+size (Group child keys items) = 1 + size child
+size (Hash left right pairs unique) = 1 + (size left + size right)
+size (Merge left right pairs unique) = 1 + (size left + size right)
+size (Index left seek cond) = 2 + size left
 
--- its nodes in preorder, the root being number n
-abbrev pub nodes_of : Tree → ℕ → List Node
-nodes_of (Scan table label) n = node.Scan table label ∷ []
-nodes_of (Project child columns) n = node.Project (n + 1) columns ∷ nodes_of child (n + 1)
+-- a number of each node of the tree, whose root is number n, added up; of a Seek by its left side and the number of its Index
+abbrev pub total : (Tree → ℕ → ℕ) → (Tree → Seek → ℕ → ℕ) → Tree → ℕ → ℕ
+total f s (Scan table label) n = f (Scan table label) n
+total f s (Filter child cond) n = f (Filter child cond) n + total f s child (n + 1)
+total f s (Project child columns) n = f (Project child columns) n + total f s child (n + 1)
+total f s (Sort child keys) n = f (Sort child keys) n + total f s child (n + 1)
+total f s (Group child keys items) n = f (Group child keys items) n + total f s child (n + 1)
+total f s (Hash left right pairs unique) n =
+    f (Hash left right pairs unique) n + (total f s left (n + 1) + total f s right (n + 1 + size left))
+total f s (Merge left right pairs unique) n =
+    f (Merge left right pairs unique) n + (total f s left (n + 1) + total f s right (n + 1 + size left))
+total f s (Index left seek cond) n = f (Index left seek cond) n + (total f s left (n + 1) + s left seek n)
 
--- over the first tree of a list
-abbrev pub over_first : (Tree → Tree) → List Tree → List Tree
-over_first f [] = []
-over_first f (t ∷ ts) = f t ∷ ts
-
--- the trees that stand one after another in a list of nodes
-abbrev pub forest_of : List Node → List Tree
-forest_of [] = []
-forest_of (node.Scan table label ∷ nodes) = Scan table label ∷ forest_of nodes
-forest_of (node.Project child columns ∷ nodes) = over_first (λ t. Project t columns) (forest_of nodes)
-
--- the first tree, and a scan where there is none
-abbrev pub first_tree : List Tree → Tree
-first_tree [] = Scan 0 (record { table = []; alias = [] })
-first_tree (t ∷ ts) = t
-
--- the tree that a list of nodes in preorder stands for
-abbrev pub tree_of : List Node → Tree
-tree_of nodes = first_tree (forest_of nodes)
-
--- numbered in preorder from 1, and each node but the first is the child of one earlier node
-abbrev pub IsNumbered : List Node → Type 0
-IsNumbered nodes = nodes ≡ nodes_of (tree_of nodes) 1
-
--- node n of the list, counted from 1, heads the tree
-abbrev pub Heads : List Node → Tree → ℕ → Type 0
-Heads nodes (Scan table label) n = slice_get nodes (n - 1) ≡ Some (node.Scan table label)
-Heads nodes (Project child columns) n = (slice_get nodes (n - 1) ≡ Some (node.Project (n + 1) columns)) × Heads nodes child (n + 1)
-
--- a number at each node of the tree, whose root is number n, added up
-abbrev pub total : (Tree → ℕ → ℕ) → Tree → ℕ → ℕ
-total f (Scan table label) n = f (Scan table label) n
-total f (Project child columns) n = f (Project child columns) n + total f child (n + 1)
-
--- a fact at each node of the tree, whose root is number n
-abbrev pub Each : (Tree → ℕ → Type 0) → Tree → ℕ → Type 0
-Each P (Scan table label) n = P (Scan table label) n
-Each P (Project child columns) n = P (Project child columns) n × Each P child (n + 1)
+-- a fact of each node of the tree, whose root is number n; of a Seek by its left side and the number of its Index
+abbrev pub Each : (Tree → ℕ → Type 0) → (Tree → Seek → ℕ → Type 0) → Tree → ℕ → Type 0
+Each P S (Scan table label) n = P (Scan table label) n
+Each P S (Filter child cond) n = P (Filter child cond) n × Each P S child (n + 1)
+Each P S (Project child columns) n = P (Project child columns) n × Each P S child (n + 1)
+Each P S (Sort child keys) n = P (Sort child keys) n × Each P S child (n + 1)
+Each P S (Group child keys items) n = P (Group child keys items) n × Each P S child (n + 1)
+Each P S (Hash left right pairs unique) n =
+    P (Hash left right pairs unique) n × Each P S left (n + 1) × Each P S right (n + 1 + size left)
+Each P S (Merge left right pairs unique) n =
+    P (Merge left right pairs unique) n × Each P S left (n + 1) × Each P S right (n + 1 + size left)
+Each P S (Index left seek cond) n = P (Index left seek cond) n × S left seek n × Each P S left (n + 1)

@@ -1,13 +1,12 @@
-//! The plan of a statement, and what it means: the rows that each operator hands out, the events of a run in
-//! their order, and the work, counted in rows (the getnext model of work of Chaudhuri, Narasayya and
-//! Ramamurthy, SIGMOD 2004).
+//! The plan of a statement as a tree of operators, and the rows that each of them hands out.
 //!
-//! Its laws say that the events give each operator its rows, and that they number the whole work.
+//! `check_plan` says whether a plan is right for the tables that are declared.
 #![tactic(auto)]
 
 pub mod gauge;
-pub mod laws;
 pub mod plan;
 
 pub use gauge::{Bound, Gauge, Shown, Whole};
-pub use plan::{Label, Node, Nodes, Plan};
+pub use plan::{
+    Aggregate, Aggregates, Label, Node, Nodes, Pair, Pairs, Plan, SortKey, SortKeys, Unique,
+};

@@ -1,5 +1,5 @@
 -- the total order on values and on lists of values, and when KEY and ORDER hold of rows
-use Rattle.std.specs.Prelude.{◌≢◌, ◌<◌, ℕ, suc, List, [], length, get_or, map, Option, None, Some}
+use Rattle.std.specs.Prelude.{◌≢◌, ◌<◌, ℕ, suc, Bool, true, false, List, [], length, get_or, map, Option, None, Some}
 use Rattle.std.specs.declared.cmp.Ordering.{Ordering}
 use Rattle.std.specs.declared.cmp.Ordering.TheVariants as ordering
 use Rattle.std.specs.Ordering.{int_cmp, nat_cmp}
@@ -7,6 +7,11 @@ use Rattle.std.specs.Cmp.Lexicographic.{slice_cmp}
 use Rattle.pm_values.specs.declared.value.Value.{Value}
 use Rattle.pm_values.specs.declared.value.Value.TheVariants as value
 use Rattle.pm_values.specs.Row.{pick}
+
+abbrev pub is_less : Ordering → Bool
+is_less ordering.Less = true
+is_less ordering.Equal = false
+is_less ordering.Greater = false
 
 -- NULL comes first, then numbers by size, then texts by their bytes
 abbrev pub value_cmp : Value → Value → Ordering

@@ -1,4 +1,0 @@
-pub mod EventLists
-pub mod EventLaws
-pub mod Widths
-pub mod Answers
