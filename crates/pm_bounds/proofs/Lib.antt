@@ -1,2 +1,4 @@
 pub mod Groups
 pub mod Pairs
+pub mod Enclosed
+pub mod Sums
