@@ -5,3 +5,5 @@ pub mod Sums
 pub mod Narrow
 pub mod First
 pub mod Exact
+pub mod Caps
+pub mod Estimates
