@@ -112,10 +112,11 @@ sum_is : (top a b x y : ℕ) → a ≡ min top x → b ≡ min top y → min top
 sum_is top a b x y e f = omega (arith, e, f)
 
 module _ (top : ℕ) (sizes : Sizes) (one : 1 ≤ top) where
-  abbrev first_total : Tree → ℕ → ℕ
-  first_total tree n = total (λ t m. first_hi sizes t) (λ left seek m. first_seek sizes seek (first_hi sizes left)) tree n
+  pub first_seek_is : (left : Tree) (seek : Seek) → first_seek_capped top sizes seek (first_capped top sizes left) ≡ min top (first_seek sizes seek (first_hi sizes left))
+  first_seek_is left seek = ap (first_seek_capped top sizes seek) (first_capped_is top sizes one left) ∙ first_seek_capped_is top sizes seek (first_hi sizes left)
 
-  pub first_sum_is : (tree : Tree) (n : ℕ) → first_sum_capped top sizes tree ≡ min top (first_total tree n)
+  pub first_sum_is : (tree : Tree) (n : ℕ)
+      → first_sum_capped top sizes tree ≡ min top (total (λ t m. first_hi sizes t) (λ left seek m. first_seek sizes seek (first_hi sizes left)) tree n)
   first_sum_is (Scan table label) n = refl
   first_sum_is (Filter child c) n = sum_is top _ _ _ _ (first_capped_is top sizes one (Filter child c)) (first_sum_is child (n + 1))
   first_sum_is (Project child columns) n = sum_is top _ _ _ _ (first_capped_is top sizes one (Project child columns)) (first_sum_is child (n + 1))
@@ -127,7 +128,7 @@ module _ (top : ℕ) (sizes : Sizes) (one : 1 ≤ top) where
       sum_is top _ _ _ _ (first_capped_is top sizes one (Merge left right pairs u)) (sum_is top _ _ _ _ (first_sum_is left (n + 1)) (first_sum_is right (n + 1 + size left)))
   first_sum_is (Index left seek c) n =
       sum_is top _ _ _ _ (first_capped_is top sizes one (Index left seek c))
-      (sum_is top _ _ _ _ (first_sum_is left (n + 1)) (ap (first_seek_capped top sizes seek) (first_capped_is top sizes one left) ∙ first_seek_capped_is top sizes seek (first_hi sizes left)))
+      (sum_is top _ _ _ _ (first_sum_is left (n + 1)) (first_seek_is left seek))
 
 -- where the bounds stay within the greatest number, what is computed is the bound
 capped_outside : (top : ℕ) (f : Bool) (cap x : ℕ) → capped_if f cap (min top x) ≡ min top (capped_if f cap x)

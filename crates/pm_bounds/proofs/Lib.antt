@@ -5,5 +5,7 @@ pub mod Sums
 pub mod Narrow
 pub mod First
 pub mod Exact
+pub mod Wholes
+pub mod Sound
 pub mod Caps
 pub mod Estimates

@@ -18,21 +18,12 @@ use Rattle.pm_work.specs.Moments.{Counts, Gauges, groups_in, seek_gauge, HasGaug
 use Rattle.pm_work.specs.Orderly.{Orderly}
 use Rattle.pm_work.specs.Facts.{AllFlagsHold}
 use Rattle.pm_work.proofs.Joins.{length-filter_step, worst_step, worst_one, join_step_left, join_step_right, joined_rows_le, length-sought}
+use Rattle.pm_work.proofs.EventLaws.{size_pos}
 use Rattle.pm_bounds.specs.Bounds.{lo, hi, lo_of_seek, hi_of_seek}
 use Rattle.pm_bounds.specs.Enclosure.{IsNext, AllNarrow}
 use Rattle.pm_bounds.proofs.Groups.{GrowsBy, groups_step, group_narrows}
 use Rattle.pm_bounds.proofs.Pairs.{capped_above, capped_mono, min_mono, pairs_left, pairs_right, pairs_still, rate_left, rate_still}
 use Rattle.pm_bounds.proofs.Enclosed.{IsEnclosed, IsSeekEnclosed, enclosed, seek_enclosed, handed_is, settled_is, worst_is, seek_hi_is}
-
-pub size_positive : (tree : Tree) → 1 ≤ size tree
-size_positive (Scan table label) = omega arith
-size_positive (Filter child c) = omega arith
-size_positive (Project child columns) = omega arith
-size_positive (Sort child keys) = omega arith
-size_positive (Group child keys items) = omega arith
-size_positive (Hash left right pairs unique) = omega arith
-size_positive (Merge left right pairs unique) = omega arith
-size_positive (Index left seek c) = omega arith
 
 pub orderly_le : (db : Db) (tree : Tree) (n : ℕ) (K : Counts) → Orderly db tree n K → K n ≤ length (output db tree)
 orderly_le db (Scan table label) n K o = o
@@ -201,7 +192,7 @@ module _ (db : Db) (m : ℕ) (K L : Counts) (G H : Gauges) (next : IsNext m K L)
   narrows (Hash left right pairs unique) n f o p g h =
       let deep_l : Narrows left (n + 1) G H = narrows left (n + 1) f.1 o.3 p.3 g.1 h.1 in
       let deep_r : Narrows right (n + 1 + size left) G H = narrows right (n + 1 + size left) f.2 o.4 p.4 g.2 h.2 in
-      let apart : n + 1 ≢ n + 1 + size left = λ z. absurd (omega (arith, z, size_positive left)) in
+      let apart : n + 1 ≢ n + 1 + size left = λ z. absurd (omega (arith, z, size_pos left)) in
       let bl = below left (n + 1) f.1 p.3 h.1 in
       let br = below right (n + 1 + size left) f.2 p.4 h.2 in
       let e = pairs_narrow pairs unique (n + 1) (n + 1 + size left) (hi left (n + 1) G) (hi right (n + 1 + size left) G) (hi left (n + 1) H) (hi right (n + 1 + size left) H) (output db left) (output db right) apart deep_l.1 deep_r.1 bl br in
@@ -221,7 +212,7 @@ module _ (db : Db) (m : ℕ) (K L : Counts) (G H : Gauges) (next : IsNext m K L)
   narrows (Merge left right pairs unique) n f o p g h =
       let deep_l : Narrows left (n + 1) G H = narrows left (n + 1) f.1 o.2 p.2 g.1 h.1 in
       let deep_r : Narrows right (n + 1 + size left) G H = narrows right (n + 1 + size left) f.2 o.3 p.3 g.2 h.2 in
-      let apart : n + 1 ≢ n + 1 + size left = λ z. absurd (omega (arith, z, size_positive left)) in
+      let apart : n + 1 ≢ n + 1 + size left = λ z. absurd (omega (arith, z, size_pos left)) in
       let e = pairs_narrow pairs unique (n + 1) (n + 1 + size left) (hi left (n + 1) G) (hi right (n + 1 + size left) G) (hi left (n + 1) H) (hi right (n + 1 + size left) H) (output db left) (output db right) apart deep_l.1 deep_r.1
       (below left (n + 1) f.1 p.2 h.1) (below right (n + 1 + size left) f.2 p.3 h.2) in
       rw (

@@ -20,6 +20,17 @@ module _ (f g : Tree → ℕ → ℕ) (s r : Tree → Seek → ℕ → ℕ) wher
   total_le (Merge left right pairs unique) n e = omega (arith, e.0, total_le left (n + 1) e.1, total_le right (n + 1 + size left) e.2)
   total_le (Index left seek c) n e = omega (arith, e.0, e.1, total_le left (n + 1) e.2)
 
+  -- the same at each node, so the same in all
+  pub total_same : (tree : Tree) (n : ℕ) → Each (λ t m. f t m ≡ g t m) (λ left seek m. s left seek m ≡ r left seek m) tree n → total f s tree n ≡ total g r tree n
+  total_same (Scan table label) n e = e
+  total_same (Filter child c) n e = omega (arith, e.0, total_same child (n + 1) e.1)
+  total_same (Project child columns) n e = omega (arith, e.0, total_same child (n + 1) e.1)
+  total_same (Sort child keys) n e = omega (arith, e.0, total_same child (n + 1) e.1)
+  total_same (Group child keys items) n e = omega (arith, e.0, total_same child (n + 1) e.1)
+  total_same (Hash left right pairs unique) n e = omega (arith, e.0, total_same left (n + 1) e.1, total_same right (n + 1 + size left) e.2)
+  total_same (Merge left right pairs unique) n e = omega (arith, e.0, total_same left (n + 1) e.1, total_same right (n + 1 + size left) e.2)
+  total_same (Index left seek c) n e = omega (arith, e.0, e.1, total_same left (n + 1) e.2)
+
 -- what holds at each node may be weakened there
 module _ (P Q : Tree → ℕ → Type 0) (S R : Tree → Seek → ℕ → Type 0) (p : (tree : Tree) (n : ℕ) → P tree n → Q tree n) (s : (left : Tree) (seek : Seek) (n : ℕ) → S left seek n → R left seek n) where
   pub Each_map : (tree : Tree) (n : ℕ) → Each P S tree n → Each Q R tree n

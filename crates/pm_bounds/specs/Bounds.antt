@@ -3,6 +3,7 @@ use Rattle.std.specs.Prelude.{ℕ, ◌+◌, ◌-◌}
 use Rattle.pm_plan.specs.Tree.{Tree, Scan, Filter, Project, Sort, Group, Hash, Merge, Index, Seek, size, total}
 use Rattle.pm_work.specs.Formulas.{group_lo, group_hi, pairs_hi, hash_hi, seek_hi}
 use Rattle.pm_work.specs.Moments.{Gauges}
+use Rattle.pm_work.specs.First.{Sizes, first_hi, first_seek}
 
 -- the lower bound of the tree's root, which is node n
 abbrev pub lo : Tree → ℕ → Gauges → ℕ
@@ -53,3 +54,7 @@ lo_whole tree G = total (λ t n. lo t n G) (λ left seek n. lo_of_seek left seek
 
 abbrev pub hi_whole : Tree → Gauges → ℕ
 hi_whole tree G = total (λ t n. hi t n G) (λ left seek n. hi_of_seek left seek n G) tree 1
+
+-- before any event, from the sizes of the tables
+abbrev pub first_whole : Sizes → Tree → ℕ
+first_whole sizes tree = total (λ t n. first_hi sizes t) (λ left seek n. first_seek sizes seek (first_hi sizes left)) tree 1
