@@ -5,3 +5,8 @@ pub mod Indexes
 pub mod EventLaws
 pub mod EventRows
 pub mod Totals
+pub mod Ascending
+pub mod MergeCuts
+pub mod IndexCuts
+pub mod Sorts
+pub mod Orders
