@@ -10,3 +10,4 @@ pub mod MergeCuts
 pub mod IndexCuts
 pub mod Sorts
 pub mod Orders
+pub mod Tables
