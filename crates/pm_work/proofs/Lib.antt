@@ -11,3 +11,5 @@ pub mod IndexCuts
 pub mod Sorts
 pub mod Orders
 pub mod Tables
+pub mod Widths
+pub mod Uniqueness
