@@ -1,11 +1,11 @@
 -- rows that ascend by neighbours ascend throughout: no later row is less than an earlier one
-use Rattle.std.proofs.Common.{◌≡◌, ◌≢◌, ℕ, zero, suc, ◌<◌, Bool, true, false, ◌||◌, List, [], ◌∷◌, length, refl, sym, ap, subst, ◌∙◌, arith}
+use Rattle.std.proofs.Common.{◌≡◌, ◌≢◌, ℕ, zero, suc, Bool, true, false, ◌||◌, List, [], ◌∷◌, refl, sym, ap, ◌∙◌, arith}
 use Rattle.std.specs.List.{list_any}
 use Rattle.std.specs.Ordering.{ordering_reverse}
 use Rattle.std.specs.declared.cmp.Ordering.{Ordering}
 use Rattle.std.specs.declared.cmp.Ordering.TheVariants as ordering
 use Rattle.pm_values.specs.Row.{Row, pick}
-use Rattle.pm_values.specs.Order.{values_cmp, is_less, pick_at, Ascends}
+use Rattle.pm_values.specs.Order.{values_cmp, is_less, Ascends}
 use Rattle.pm_values.proofs.ValueOrder.{values_cmp_itself, values_cmp_reversed, values_cmp_chains}
 
 pub or_false : (a b : Bool) → (a || b) ≡ false → (a ≡ false) × (b ≡ false)
@@ -51,7 +51,7 @@ none_below columns key first (next ∷ rows) h up =
     (not_less key (pick columns next) later)
     (none_below columns key next rows later (λ i p. up (suc i) (omega (arith, p))))
 
-not_greater_itself : (key : Row) → values_cmp key key ≢ ordering.Greater
+pub not_greater_itself : (key : Row) → values_cmp key key ≢ ordering.Greater
 not_greater_itself key greater = absurd (let e : ordering.Equal ≡ ordering.Greater = sym (values_cmp_itself key) ∙ greater in cc)
 
 pub none_falls : (columns : List ℕ) (rows : List Row) → Ascends columns rows → NoPair (falls columns) rows

@@ -13,3 +13,5 @@ pub mod Orders
 pub mod Tables
 pub mod Widths
 pub mod Uniqueness
+pub mod LeftOrder
+pub mod Flags

@@ -1,25 +1,24 @@
 -- the counts of each moment of a tree's events are orderly
 use Rattle.std.proofs.Math.Seq.{take-append_seam, take-length}
-use Rattle.std.proofs.Common.{◌≡◌, ℕ, ◌+◌, ◌<◌, ◌≤◌, Bool, List, [], ◌∷◌, ◌++◌, length, map, take, drop, refl, sym, ap, subst, ◌∙◌, ◌⊎◌, inl, inr, arith, length-append}
+use Rattle.std.proofs.Common.{◌≡◌, ℕ, ◌+◌, ◌<◌, ◌≤◌, List, [], ◌∷◌, ◌++◌, length, map, take, drop, refl, sym, ap, subst, ◌∙◌, inl, inr, arith, length-append}
 use Rattle.std.specs.List.{flat_map, filter}
 use Rattle.std.proofs.lemmas.Grind.{flat_map-append}
 use Rattle.std.proofs.lemmas.List.{append-nil, length-map, take-append-le, take-append-drop}
 use Rattle.std.proofs.lemmas.Bool.{cases_lt}
 use Rattle.pm_values.specs.Row.{Row, pick}
 use Rattle.pm_values.specs.Condition.{keeps}
-use Rattle.pm_plan.specs.declared.plan.Pair.{Pair}
 use Rattle.pm_plan.specs.Rows.{Db, table_rows}
 use Rattle.pm_plan.specs.Joins.{right_columns, matches, joined_rows, join}
 use Rattle.pm_plan.specs.Sorting.{sorted}
 use Rattle.pm_plan.specs.Grouping.{grouped}
-use Rattle.pm_plan.specs.Tree.{Tree, Scan, Filter, Project, Sort, Group, Hash, Merge, Index, Seek, size}
+use Rattle.pm_plan.specs.Tree.{Tree, Scan, Filter, Project, Sort, Group, Hash, Merge, Index, size}
 use Rattle.pm_plan.specs.Outputs.{output, sought, keeps_if}
 use Rattle.pm_work.specs.Events.{Event, handed, after, events, rows_at, counts}
 use Rattle.pm_work.specs.Moments.{Counts}
 use Rattle.pm_work.specs.Orderly.{Orderly}
 use Rattle.pm_work.specs.Facts.{MergesAscend}
 use Rattle.pm_work.proofs.Joins.{length-sought}
-use Rattle.pm_work.proofs.EventLists.{Only, Within, Only-handed, Only-first, rows_at-append, rows_at-outside, rows_at-other, Follows, follow, InFirst, InSecond, cut_of-append, Within-first}
+use Rattle.pm_work.proofs.EventLists.{Only, Within, Only-handed, Only-first, rows_at-append, rows_at-outside, rows_at-other, Follows, follow, cut_of-append, Within-first}
 use Rattle.pm_work.proofs.EventLaws.{filter_one, flat_map-filter_one, flat_map-one, size_pos, Within-events, rows_at-events}
 use Rattle.pm_work.proofs.Ascending.{none_falls}
 use Rattle.pm_work.proofs.MergeCuts.{cut_merged, MergeCut}
