@@ -103,6 +103,10 @@ rows_at-after n c b f (e ∷ es) w =
     ∙ sym (flat_map-append f (rows_at c (e ∷ [])) (rows_at c es))
     ∙ ap (flat_map f) (sym (rows_at-append c (e ∷ []) es))
 
+pub Only-first : (n : ℕ) (xs ys : List Event) → Only n (xs ++ ys) → Only n xs
+Only-first n [] ys p = tt
+Only-first n (x ∷ xs) ys p = (p.0, Only-first n xs ys p.1)
+
 -- a join of two lists, cut somewhere else
 pub record InFirst (done left a b : List Event) : Type 0 where
   pub rest : List Event

@@ -5,3 +5,13 @@ pub mod Indexes
 pub mod EventLaws
 pub mod EventRows
 pub mod Totals
+pub mod Ascending
+pub mod MergeCuts
+pub mod IndexCuts
+pub mod Sorts
+pub mod Orders
+pub mod Tables
+pub mod Widths
+pub mod Uniqueness
+pub mod LeftOrder
+pub mod Flags
