@@ -1,39 +1,26 @@
 -- at each node the count, the lower bound, the rows and the upper bound stand in this order
-use Rattle.std.proofs.Common.{◌≡◌, ℕ, suc, zero, ◌+◌, ◌-◌, ◌*◌, ◌<◌, ◌≤◌, Bool, true, false, cond, List, [], ◌∷◌, length, take, drop, refl, ap, subst, ◌∙◌, arith, length-drop}
+use Rattle.std.proofs.Common.{◌≡◌, ℕ, ◌+◌, ◌-◌, ◌*◌, ◌≤◌, Bool, List, length, take, drop, ap, subst, ◌∙◌, arith, length-drop}
 use Rattle.std.specs.List.{filter}
 use Rattle.std.proofs.lemmas.List.{length-map}
 use Rattle.std.proofs.Math.Nat.{mul-le-mul, le_refl}
 use Rattle.pm_values.specs.Row.{Row, pick}
-use Rattle.pm_values.specs.Order.{is_less}
 use Rattle.pm_values.specs.Condition.{keeps}
-use Rattle.pm_plan.specs.declared.gauge.Gauge.{Gauge}
 use Rattle.pm_plan.specs.declared.plan.Pair.{Pair}
 use Rattle.pm_plan.specs.declared.plan.Unique.{Unique}
-use Rattle.pm_plan.specs.declared.plan.SortKey.{SortKey}
 use Rattle.pm_plan.specs.Rows.{Db, table_rows}
 use Rattle.pm_plan.specs.Joins.{right_columns, join, worst}
-use Rattle.pm_plan.specs.Sorting.{keys_cmp, inserted, sorted}
 use Rattle.pm_plan.specs.Tree.{Tree, Scan, Filter, Project, Sort, Group, Hash, Merge, Index, Seek, size}
 use Rattle.pm_plan.specs.Outputs.{output, sought, keeps_if}
-use Rattle.pm_work.specs.Formulas.{capped_if, group_lo, group_hi, seek_hi}
+use Rattle.pm_work.specs.Formulas.{group_lo, group_hi, seek_hi}
 use Rattle.pm_work.specs.Moments.{Counts, Gauges, settled, seek_settled, groups_in, gauge_of, seek_gauge, HasGauges}
 use Rattle.pm_work.specs.Orderly.{Orderly}
 use Rattle.pm_work.specs.Facts.{FlagsHold, AllFlagsHold}
+use Rattle.pm_work.proofs.Sorts.{length-sorted}
 use Rattle.pm_work.proofs.Joins.{length-filter_cut, length-filter_take, join_cut_left, join_le_worst, join_le_right, join_take_le, length-sought}
 use Rattle.pm_bounds.specs.Bounds.{lo, hi, lo_of_seek, hi_of_seek}
 use Rattle.pm_bounds.specs.Enclosure.{Encloses, AllEnclosed}
 use Rattle.pm_bounds.proofs.Groups.{length-grouped, group_encloses}
 use Rattle.pm_bounds.proofs.Pairs.{capped_above, pairs_enclose, hash_encloses}
-
-length-inserted : (keys : List SortKey) (row : Row) (rows : List Row) → length (inserted keys row rows) ≡ suc (length rows)
-length-inserted keys row [] = refl
-length-inserted keys row (next ∷ rows) =
-    elim (is_less (keys_cmp keys next row)) as (λ t. length (cond t (next ∷ inserted keys row rows) (row ∷ next ∷ rows)) ≡ suc (suc (length rows)))
-    [ true ↦ ap suc (length-inserted keys row rows) | false ↦ refl ]
-
-pub length-sorted : (keys : List SortKey) (rows : List Row) → length (sorted keys rows) ≡ length rows
-length-sorted keys [] = refl
-length-sorted keys (row ∷ rows) = length-inserted keys row (sorted keys rows) ∙ ap suc (length-sorted keys rows)
 
 -- of one node
 abbrev pub IsEnclosed : Db → Tree → ℕ → Gauges → Type 0

@@ -4,7 +4,6 @@ use Rattle.std.proofs.lemmas.List.{length-map}
 use Rattle.std.proofs.Math.Nat.{le_trans}
 use Rattle.pm_values.specs.Row.{Row, pick}
 use Rattle.pm_values.specs.Condition.{keeps}
-use Rattle.pm_plan.specs.declared.gauge.Gauge.{Gauge}
 use Rattle.pm_plan.specs.Rows.{Db, table_rows}
 use Rattle.pm_plan.specs.Joins.{right_columns, join, worst}
 use Rattle.pm_plan.specs.Tree.{Tree, Scan, Filter, Project, Sort, Group, Hash, Merge, Index, Seek, size, Each}
@@ -12,12 +11,13 @@ use Rattle.pm_plan.specs.Outputs.{output, sought, keeps_if}
 use Rattle.pm_work.specs.Moments.{Counts, Gauges, seek_gauge, HasGauges}
 use Rattle.pm_work.specs.Orderly.{Orderly}
 use Rattle.pm_work.specs.Facts.{AllFlagsHold}
+use Rattle.pm_work.proofs.Sorts.{length-sorted}
 use Rattle.pm_work.proofs.Joins.{length-filter_take, join_cut_left, join_take_le, length-sought}
 use Rattle.pm_bounds.specs.Bounds.{lo, hi, hi_of_seek}
 use Rattle.pm_bounds.specs.Enclosure.{AllExact}
 use Rattle.pm_bounds.proofs.Groups.{length-grouped, group_ends}
 use Rattle.pm_bounds.proofs.Pairs.{capped_below, nothing_left, pairs_end}
-use Rattle.pm_bounds.proofs.Enclosed.{IsEnclosed, IsSeekEnclosed, length-sorted, enclosed, seek_enclosed, handed_is, settled_is, seek_hi_is}
+use Rattle.pm_bounds.proofs.Enclosed.{IsEnclosed, IsSeekEnclosed, enclosed, seek_enclosed, handed_is, settled_is, seek_hi_is}
 
 -- every node has handed out all its rows
 abbrev pub AtEnd : Db → Tree → ℕ → Counts → Type 0

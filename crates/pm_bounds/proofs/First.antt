@@ -1,11 +1,8 @@
 -- no upper bound is above the first one
-use Rattle.std.proofs.Common.{◌≡◌, ℕ, suc, zero, ◌+◌, ◌-◌, ◌*◌, ◌<◌, ◌≤◌, Bool, true, false, List, [], ◌∷◌, length, map, take, refl, ap, ◌∙◌, arith, length-take}
-use Rattle.std.specs.List.{filter}
+use Rattle.std.proofs.Common.{◌≡◌, ℕ, suc, zero, ◌+◌, ◌*◌, ◌≤◌, Bool, true, false, List, [], ◌∷◌, length, take, refl, ap, arith, length-take}
 use Rattle.std.proofs.Math.Nat.{mul-le-mul, le_refl}
-use Rattle.pm_values.specs.Table.{Relation}
 use Rattle.pm_values.specs.Row.{Row}
 use Rattle.pm_values.specs.Condition.{keeps}
-use Rattle.pm_plan.specs.declared.gauge.Gauge.{Gauge}
 use Rattle.pm_plan.specs.Rows.{Db, table_rows}
 use Rattle.pm_plan.specs.Joins.{right_columns, join, worst}
 use Rattle.pm_plan.specs.Tree.{Tree, Scan, Filter, Project, Sort, Group, Hash, Merge, Index, Seek, size}
@@ -13,7 +10,7 @@ use Rattle.pm_plan.specs.Outputs.{output, sought, keeps_if}
 use Rattle.pm_work.specs.Moments.{Counts, Gauges, seek_gauge, HasGauges}
 use Rattle.pm_work.specs.Orderly.{Orderly}
 use Rattle.pm_work.specs.Facts.{AtMostOne, FlagsHold, AllFlagsHold}
-use Rattle.pm_work.specs.First.{Sizes, size_in, first_worst, first_seek, first_hi}
+use Rattle.pm_work.specs.First.{size_in, first_worst, first_seek, first_hi}
 use Rattle.pm_work.specs.Fits.{sizes_of}
 use Rattle.pm_work.proofs.Joins.{length-filter_le, worst_one, worst_few, join_le_worst, length-sought}
 use Rattle.pm_bounds.specs.Bounds.{hi, hi_of_seek}

@@ -1,10 +1,10 @@
 -- the bounds of a join's pairs, from what is known of its two sides
-use Rattle.std.proofs.Common.{◌≡◌, ℕ, suc, zero, ◌+◌, ◌-◌, ◌*◌, ◌<◌, ◌≤◌, Bool, true, false, List, length, take, drop, min, refl, ap, subst, ◌∙◌, arith, length-drop, length-take}
+use Rattle.std.proofs.Common.{◌≡◌, ℕ, suc, ◌+◌, ◌-◌, ◌*◌, ◌<◌, ◌≤◌, Bool, true, false, List, length, take, drop, min, refl, ap, subst, ◌∙◌, arith, length-drop, length-take}
 use Rattle.std.proofs.Math.Nat.{mul-le-mul, le_refl, le_trans}
 use Rattle.pm_values.specs.Row.{Row}
 use Rattle.pm_plan.specs.declared.plan.Pair.{Pair}
 use Rattle.pm_plan.specs.declared.plan.Unique.{Unique}
-use Rattle.pm_plan.specs.Joins.{left_columns, right_columns, join, worst}
+use Rattle.pm_plan.specs.Joins.{right_columns, join, worst}
 use Rattle.pm_work.specs.Formulas.{capped_if, pairs_hi, hash_hi}
 use Rattle.pm_work.specs.Facts.{AtMostOne, FlagsHold}
 use Rattle.pm_work.proofs.Joins.{worst_cut, worst_one, worst_few, AtMostOne_take, join_le_left, join_le_right, join_le_product, join_le_worst, join_cut_left, join_cut_right, join_settled}

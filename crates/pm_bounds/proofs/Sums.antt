@@ -1,12 +1,10 @@
 -- sums over all nodes of a tree
-use Rattle.std.proofs.Common.{◌≡◌, ℕ, ◌+◌, ◌≤◌, ap, length, arith}
-use Rattle.pm_plan.specs.declared.gauge.Gauge.{Gauge}
-use Rattle.pm_plan.specs.Rows.{Db, table_rows}
+use Rattle.std.proofs.Common.{◌≡◌, ℕ, ◌+◌, ◌≤◌, ap, arith}
+use Rattle.pm_plan.specs.Rows.{Db}
 use Rattle.pm_plan.specs.Tree.{Tree, Scan, Filter, Project, Sort, Group, Hash, Merge, Index, Seek, size, Each, total}
-use Rattle.pm_plan.specs.Outputs.{output, sought}
 use Rattle.pm_work.specs.Moments.{Counts, Gauges, HasGauges}
 use Rattle.pm_work.specs.Work.{scanned_at}
-use Rattle.pm_bounds.specs.Bounds.{lo, hi, lo_of_seek, hi_of_seek}
+use Rattle.pm_bounds.specs.Bounds.{lo, lo_of_seek}
 
 -- at each node no more, so no more in all
 module _ (f g : Tree → ℕ → ℕ) (s r : Tree → Seek → ℕ → ℕ) where

@@ -1,8 +1,7 @@
 -- the bounds of the whole work, from those of each node
-use Rattle.std.proofs.Common.{◌≡◌, ℕ, ◌+◌, ◌≤◌, length, sym, ap, ◌∙◌}
-use Rattle.pm_plan.specs.declared.gauge.Gauge.{Gauge}
+use Rattle.std.proofs.Common.{◌≡◌, ℕ, ◌+◌, ◌≤◌, length, ap, ◌∙◌}
 use Rattle.pm_plan.specs.Rows.{Db}
-use Rattle.pm_plan.specs.Tree.{Tree, Seek, size, Each, total}
+use Rattle.pm_plan.specs.Tree.{Tree, Seek, size, total}
 use Rattle.pm_plan.specs.Outputs.{output, sought}
 use Rattle.pm_work.specs.Events.{events, rows_at, counts}
 use Rattle.pm_work.specs.Moments.{Counts, Gauges, gauge_of, seek_gauge, HasGauges}
