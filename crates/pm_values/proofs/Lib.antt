@@ -1,2 +1,3 @@
 pub mod ValueOrder
 pub mod Keys
+pub mod Scaling

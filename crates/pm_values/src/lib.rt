@@ -12,6 +12,7 @@ pub mod key;
 pub mod laws;
 pub mod order;
 pub mod print;
+mod scaled;
 pub mod table;
 pub mod text;
 pub mod value;
