@@ -1,3 +1,4 @@
 pub mod ValueOrder
 pub mod Keys
 pub mod Scaling
+pub mod Folds
