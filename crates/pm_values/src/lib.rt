@@ -4,18 +4,24 @@
 //! and its rows. A table keeps in its type that its rows are what its declaration says.
 #![tactic(auto)]
 
+pub mod cells;
 pub mod condition;
 pub mod gate;
 pub mod items;
+pub mod key;
+pub mod laws;
 pub mod order;
 pub mod print;
+mod scaled;
 pub mod table;
 pub mod text;
 pub mod value;
 
+pub use cells::{Cells, Pick};
 pub use condition::{Comparison, Cond, Conds, Operand, Truth};
 pub use gate::{Gate, OpenGate};
 pub use items::{Bytes, Columns, Items, Names};
+pub use key::same_key;
 pub use order::compare;
 pub use print::value_text;
 pub use table::{ColumnDecl, ColumnDecls, Db, Table, TableDecl, TableDecls};

@@ -1,0 +1,4 @@
+pub mod ValueOrder
+pub mod Keys
+pub mod Scaling
+pub mod Folds
