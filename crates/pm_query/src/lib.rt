@@ -4,6 +4,7 @@
 #![tactic(auto)]
 
 pub mod query;
+pub mod worked;
 
 pub use query::{
     Call, Calls, Choice, Conjunct, Conjuncts, Query, QueryOrder, QueryOrders, QuerySource,
