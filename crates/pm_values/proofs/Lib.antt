@@ -2,3 +2,5 @@ pub mod ValueOrder
 pub mod Keys
 pub mod Scaling
 pub mod Folds
+pub mod Readable
+mod Sizes

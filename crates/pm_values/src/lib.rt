@@ -6,6 +6,7 @@
 
 pub mod cells;
 pub mod condition;
+mod eval;
 pub mod gate;
 pub mod items;
 pub mod key;
