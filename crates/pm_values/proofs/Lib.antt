@@ -4,3 +4,4 @@ pub mod Scaling
 pub mod Folds
 pub mod Readable
 mod Sizes
+pub mod Truths

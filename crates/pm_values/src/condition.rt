@@ -1,7 +1,8 @@
-ghost use Rattle.std.specs.Prelude.{◌≡◌};
+ghost use Rattle.std.specs.Prelude.{◌≡◌, IfOk};
 ghost use Rattle.pm_values.specs.Condition.{truth_of, negated, both, either, compares, operand_scale};
 
 use crate::value::Value;
+use std::alloc::{AllocError, Global};
 use std::cmp::Ordering;
 
 /// The truth of a condition in SQL, which knows a third value beside true and false.
@@ -98,6 +99,22 @@ impl Operand {
             Operand::Column { scale, .. } | Operand::Literal { scale, .. } => *scale,
         }
     }
+
+    /// An equal operand.
+    pub fn copy(&self, alloc: Global) -> Result<Operand, AllocError>
+        ensures { IfOk result (λ copy. copy ≡ self.now) }
+    {
+        match self {
+            Operand::Column { at, scale } => Ok(Operand::Column {
+                at: *at,
+                scale: *scale,
+            }),
+            Operand::Literal { value, scale } => Ok(Operand::Literal {
+                value: value.copy(alloc)?,
+                scale: *scale,
+            }),
+        }
+    }
 }
 
 /// A condition on a row.
@@ -116,3 +133,37 @@ pub enum Cond {
 
 /// The members of a condition.
 pub type Conds = sqlite_items::Items<Cond>;
+
+impl Cond {
+    /// An equal condition.
+    #[cycle(copy)]
+    pub fn copy(&self, alloc: Global) -> Result<Cond, AllocError>
+        ensures { IfOk result (λ copy. copy ≡ self.now) }
+    {
+        match self {
+            Cond::All(members) => Ok(Cond::All(copy_members(alloc, members.as_slice())?)),
+            Cond::Any(members) => Ok(Cond::Any(copy_members(alloc, members.as_slice())?)),
+            Cond::Not(part) => Ok(Cond::Not(sqlite_items::Boxed::new(
+                alloc,
+                part.get().copy(alloc)?,
+            )?)),
+            Cond::Compare { how, left, right } => Ok(Cond::Compare {
+                how: *how,
+                left: left.copy(alloc)?,
+                right: right.copy(alloc)?,
+            }),
+            Cond::IsNull(of) => Ok(Cond::IsNull(of.copy(alloc)?)),
+        }
+    }
+}
+
+#[cycle(copy)]
+fn copy_members(alloc: Global, members: &[Cond]) -> Result<Conds, AllocError>
+    ensures { IfOk result (λ copy. copy ≡ members.now) }
+{
+    let mut copy = Conds::new(alloc);
+    for member in members {
+        copy.push(member.copy(alloc)?)?;
+    }
+    Ok(copy)
+}

@@ -27,4 +27,4 @@ pub use order::compare;
 pub use print::value_text;
 pub use table::{ColumnDecl, ColumnDecls, Db, Table, TableDecl, TableDecls};
 pub use text::Txt;
-pub use value::{Kind, Kinds, Row, Rows, Value};
+pub use value::{Kind, Kinds, Row, Rows, Value, copy_row};
