@@ -1,4 +1,5 @@
-//! Values, rows and tables of a database, and the small list and text types that every other crate shares.
+//! Values, rows, conditions on rows and tables of a database, and the small list and text types that every other
+//! crate shares.
 //!
 //! A contract sees a list type as the list of its items, a text as its bytes, and a table as its declaration
 //! and its rows. A table keeps in its type that its rows are what its declaration says.
