@@ -2,3 +2,4 @@ pub mod Bounds
 pub mod Enclosure
 pub mod Capped
 pub mod Estimates
+pub mod Worked

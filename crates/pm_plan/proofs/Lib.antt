@@ -1,1 +1,2 @@
 pub mod Preorders
+pub mod PlanParts

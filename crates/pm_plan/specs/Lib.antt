@@ -8,4 +8,5 @@ pub mod Outputs
 pub mod Kinds
 pub mod Unique
 pub mod Right
+pub mod PlanLines
 pub mod Worked

@@ -6,8 +6,10 @@
 pub mod gauge;
 pub mod laws;
 pub mod plan;
+pub mod text;
 
 pub use gauge::{Bound, Gauge, Shown, Whole};
 pub use plan::{
     Aggregate, Aggregates, Label, Node, Nodes, Pair, Pairs, Plan, SortKey, SortKeys, Unique,
 };
+pub use text::{node_text, plan_text};
