@@ -15,3 +15,4 @@ pub mod Widths
 pub mod Uniqueness
 pub mod LeftOrder
 pub mod Flags
+pub mod FirstBounds

@@ -10,7 +10,8 @@ ghost use Rattle.pm_work.specs.Work.{whole_work};
 ghost use Rattle.pm_work.specs.Moments.{counts_at};
 ghost use Rattle.pm_work.specs.Orderly.{Orderly};
 ghost use Rattle.pm_work.specs.Facts.{KeysDiffer, AtMostOne, AllFlagsHold, MergesAscend};
-ghost use Rattle.pm_work.specs.Fits.{IsSound, decls_of};
+ghost use Rattle.pm_work.specs.First.{first_hi, first_seek};
+ghost use Rattle.pm_work.specs.Fits.{IsSound, decls_of, sizes_of};
 
 /// The events number the whole work; and the rows that they give each node, and each Seek, are what it hands out in all,
 /// in order.
@@ -52,4 +53,10 @@ pub fn moments_are_orderly()
     ensures any { (db : Db) (tree : Tree) (done left : List Event) → IsSound db tree → done ++ left ≡ events db tree 1
         → Orderly db tree 1 (counts done) }
     ensures first { (db : Db) (tree : Tree) (t : ℕ) → IsSound db tree → Orderly db tree 1 (counts_at db tree t) }
+{}
+
+/// In a sound plan no operator hands out more rows than the upper bound that is known before any event.
+pub fn rows_within_first()
+    ensures { (db : Db) (tree : Tree) → IsSound db tree → Each (λ t n. length (output db t) ≤ first_hi (sizes_of db) t)
+        (λ left seek n. length (sought db seek (output db left)) ≤ first_seek (sizes_of db) seek (first_hi (sizes_of db) left)) tree 1 }
 {}
