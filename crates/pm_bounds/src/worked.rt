@@ -3,7 +3,7 @@ ghost use Rattle.std.specs.Prelude.{◌≡◌, ◌+◌, ◌^◌, [], ◌∷◌};
 ghost use Rattle.pm_work.specs.Moments.{gauge_in, gauges_at};
 ghost use Rattle.pm_work.specs.First.{first_bound};
 ghost use Rattle.pm_work.specs.Fits.{sizes_of};
-ghost use Rattle.pm_work.specs.Worked.{shop, no_orders, customers_alone, keyless, hashed, counted, customers_from_two, keyless_join};
+ghost use Rattle.pm_work.specs.Worked.{shop, no_orders, customers_alone, keyless, groups, grouped_rows, hashed, counted, customers_from_two, keyless_join};
 ghost use Rattle.pm_bounds.specs.Bounds.{bounds_of, whole_at};
 ghost use Rattle.pm_bounds.specs.Worked.{enclosed, bound, wholes, three_rows, three, six_tables, five_tables, two_keyed};
 
@@ -16,6 +16,11 @@ pub fn exact_bounds_worked()
 /// A filter's bounds draw together as its child's rows are tested; a row that is kept counts before it is handed out.
 pub fn filter_bounds_worked()
     ensures { wholes customers_alone customers_from_two (1 ∷ 2 ∷ 3 ∷ 4 ∷ 5 ∷ 6 ∷ 7 ∷ []) ≡ enclosed 1 3 7 ∷ enclosed 2 5 7 ∷ enclosed 3 5 7 ∷ enclosed 4 5 7 ∷ enclosed 5 7 7 ∷ enclosed 6 7 7 ∷ enclosed 7 7 7 ∷ [] }
+{}
+
+/// A grouping with keys hands out at least one row where its child does, before any row is read.
+pub fn group_bounds_worked()
+    ensures { wholes groups grouped_rows (0 ∷ 1 ∷ 2 ∷ 3 ∷ 4 ∷ 5 ∷ []) ≡ enclosed 0 7 15 ∷ enclosed 1 7 15 ∷ enclosed 2 9 15 ∷ enclosed 3 11 15 ∷ enclosed 4 11 13 ∷ enclosed 5 11 11 ∷ [] }
 {}
 
 /// A hash join whose right side has a KEY: a left row has at most one match.
