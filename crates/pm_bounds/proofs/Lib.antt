@@ -9,3 +9,6 @@ pub mod Wholes
 pub mod Sound
 pub mod Caps
 pub mod Estimates
+pub mod BoundLists
+pub mod Moments
+pub mod Certain
