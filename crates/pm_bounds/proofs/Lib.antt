@@ -12,3 +12,4 @@ pub mod Estimates
 pub mod BoundLists
 pub mod Moments
 pub mod Certain
+pub mod CapsHold

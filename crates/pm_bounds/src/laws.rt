@@ -1,13 +1,13 @@
 //! The laws of the bounds, each the contract of a function that does nothing.
-ghost use Rattle.std.specs.Prelude.{◌≡◌, ℕ, ◌+◌, ◌-◌, ◌≤◌, min, length, get_or};
+ghost use Rattle.std.specs.Prelude.{◌≡◌, ℕ, ◌+◌, ◌-◌, ◌^◌, ◌≤◌, min, length, get_or};
 ghost use Rattle.pm_plan.specs.declared.gauge.Bound.{Bound};
 ghost use Rattle.pm_plan.specs.Rows.{Db};
 ghost use Rattle.pm_plan.specs.Tree.{Tree, Seek, size, Each};
 ghost use Rattle.pm_work.specs.Events.{events, counts};
-ghost use Rattle.pm_work.specs.Moments.{Counts, Gauges, HasGauges};
+ghost use Rattle.pm_work.specs.Moments.{Counts, Gauges, HasGauges, gauge_in, gauges_at};
 ghost use Rattle.pm_work.specs.Orderly.{Orderly};
 ghost use Rattle.pm_work.specs.Work.{whole_work, scanned_rows};
-ghost use Rattle.pm_work.specs.First.{Sizes, first_hi, first_seek};
+ghost use Rattle.pm_work.specs.First.{Sizes, first_hi, first_seek, greatest, first_bound};
 ghost use Rattle.pm_work.specs.Fits.{IsSound, sizes_of};
 ghost use Rattle.pm_bounds.specs.Bounds.{hi, lo_of_seek, hi_of_seek, bound_of, bounds_of, work_done, lo_whole, hi_whole, first_whole};
 ghost use Rattle.pm_bounds.specs.Enclosure.{Encloses, AllEnclosed, IsNext, AllNarrow, AllWithinFirst, AllExact};
@@ -100,4 +100,17 @@ pub fn bounds_are_read()
 /// At every moment of a run of a sound tree the bounds enclose the truth, never widen, and are exact at the end.
 pub fn moments_are_certified()
     ensures { (db : Db) (tree : Tree) → IsSound db tree → AreCertified db tree }
+{}
+
+/// Where the first bound of a sound tree's work is at most 10^34, sums and products that stop at the greatest number give
+/// the upper bounds at every moment of the run, and that of the whole work is at most 10^34.
+pub fn capped_bounds_are_exact()
+    ensures root { (db : Db) (tree : Tree) (t : ℕ) → IsSound db tree → first_bound (sizes_of db) tree ≤ 10 ^ 34
+        → hi_capped greatest tree 1 (gauge_in (gauges_at db tree t)) ≡ hi tree 1 (gauge_in (gauges_at db tree t)) }
+    ensures each { (db : Db) (tree : Tree) (t : ℕ) → IsSound db tree → first_bound (sizes_of db) tree ≤ 10 ^ 34
+        → Each (λ u m. hi_capped greatest u m (gauge_in (gauges_at db tree t)) ≡ hi u m (gauge_in (gauges_at db tree t)))
+        (λ left seek m. hi_of_seek_capped greatest left seek m (gauge_in (gauges_at db tree t))
+        ≡ hi_of_seek left seek m (gauge_in (gauges_at db tree t))) tree 1 }
+    ensures whole { (db : Db) (tree : Tree) (t : ℕ) → IsSound db tree → first_bound (sizes_of db) tree ≤ 10 ^ 34
+        → hi_whole tree (gauge_in (gauges_at db tree t)) ≤ 10 ^ 34 }
 {}
