@@ -9,3 +9,7 @@ pub mod Wholes
 pub mod Sound
 pub mod Caps
 pub mod Estimates
+pub mod BoundLists
+pub mod Moments
+pub mod Certain
+pub mod CapsHold

@@ -1,17 +1,19 @@
 //! The laws of the bounds, each the contract of a function that does nothing.
-ghost use Rattle.std.specs.Prelude.{◌≡◌, ℕ, ◌+◌, ◌≤◌, min};
+ghost use Rattle.std.specs.Prelude.{◌≡◌, ℕ, ◌+◌, ◌-◌, ◌^◌, ◌≤◌, min, length, get_or};
+ghost use Rattle.pm_plan.specs.declared.gauge.Bound.{Bound};
 ghost use Rattle.pm_plan.specs.Rows.{Db};
-ghost use Rattle.pm_plan.specs.Tree.{Tree, Seek};
+ghost use Rattle.pm_plan.specs.Tree.{Tree, Seek, size, Each};
 ghost use Rattle.pm_work.specs.Events.{events, counts};
-ghost use Rattle.pm_work.specs.Moments.{Counts, Gauges, HasGauges};
+ghost use Rattle.pm_work.specs.Moments.{Counts, Gauges, HasGauges, gauge_in, gauges_at};
 ghost use Rattle.pm_work.specs.Orderly.{Orderly};
 ghost use Rattle.pm_work.specs.Work.{whole_work, scanned_rows};
-ghost use Rattle.pm_work.specs.First.{Sizes, first_hi, first_seek};
+ghost use Rattle.pm_work.specs.First.{Sizes, first_hi, first_seek, greatest, first_bound};
 ghost use Rattle.pm_work.specs.Fits.{IsSound, sizes_of};
-ghost use Rattle.pm_bounds.specs.Bounds.{hi, hi_of_seek, work_done, lo_whole, hi_whole, first_whole};
+ghost use Rattle.pm_bounds.specs.Bounds.{hi, lo_of_seek, hi_of_seek, bound_of, bounds_of, work_done, lo_whole, hi_whole, first_whole};
 ghost use Rattle.pm_bounds.specs.Enclosure.{Encloses, AllEnclosed, IsNext, AllNarrow, AllWithinFirst, AllExact};
 ghost use Rattle.pm_bounds.specs.Capped.{AllUpTo, hi_capped, hi_of_seek_capped, first_capped, first_seek_capped, first_sum_capped};
 ghost use Rattle.pm_bounds.specs.Estimates.{SafeIsNear, PercentEncloses};
+ghost use Rattle.pm_bounds.specs.Certified.{AreCertified};
 
 /// At each operator and at each Seek the count, the lower bound, the number of rows and the upper bound stand in this
 /// order; and in all, so do the work done, the lower bound, the whole work and its upper bound.
@@ -84,4 +86,31 @@ pub fn capped_is_exact()
     ensures first_of_seek { (top : ℕ) (sizes : Sizes) (left : Tree) (seek : Seek)
         → 1 ≤ top → first_seek_capped top sizes seek (first_capped top sizes left) ≡ min top (first_seek sizes seek (first_hi sizes left)) }
     ensures first_sum { (top : ℕ) (sizes : Sizes) (tree : Tree) → 1 ≤ top → first_sum_capped top sizes tree ≡ min top (first_whole sizes tree) }
+{}
+
+/// The bounds in preorder are read by the numbers of their nodes, one for each.
+pub fn bounds_are_read()
+    ensures bounds { (tree : Tree) (G : Gauges) (none : Bound)
+        → Each (λ t m. get_or (bounds_of tree 1 G) (m - 1) none ≡ bound_of t m G)
+        (λ left seek m. get_or (bounds_of tree 1 G) (m + 1 + size left - 1) none
+        ≡ record { lo = lo_of_seek left seek m G; hi = hi_of_seek left seek m G }) tree 1 }
+    ensures each_node { (tree : Tree) (n : ℕ) (G : Gauges) → length (bounds_of tree n G) ≡ size tree }
+{}
+
+/// At every moment of a run of a sound tree the bounds enclose the truth, never widen, and are exact at the end.
+pub fn moments_are_certified()
+    ensures { (db : Db) (tree : Tree) → IsSound db tree → AreCertified db tree }
+{}
+
+/// Where the first bound of a sound tree's work is at most 10^34, sums and products that stop at the greatest number give
+/// the upper bounds at every moment of the run, and that of the whole work is at most 10^34.
+pub fn capped_bounds_are_exact()
+    ensures root { (db : Db) (tree : Tree) (t : ℕ) → IsSound db tree → first_bound (sizes_of db) tree ≤ 10 ^ 34
+        → hi_capped greatest tree 1 (gauge_in (gauges_at db tree t)) ≡ hi tree 1 (gauge_in (gauges_at db tree t)) }
+    ensures each { (db : Db) (tree : Tree) (t : ℕ) → IsSound db tree → first_bound (sizes_of db) tree ≤ 10 ^ 34
+        → Each (λ u m. hi_capped greatest u m (gauge_in (gauges_at db tree t)) ≡ hi u m (gauge_in (gauges_at db tree t)))
+        (λ left seek m. hi_of_seek_capped greatest left seek m (gauge_in (gauges_at db tree t))
+        ≡ hi_of_seek left seek m (gauge_in (gauges_at db tree t))) tree 1 }
+    ensures whole { (db : Db) (tree : Tree) (t : ℕ) → IsSound db tree → first_bound (sizes_of db) tree ≤ 10 ^ 34
+        → hi_whole tree (gauge_in (gauges_at db tree t)) ≤ 10 ^ 34 }
 {}

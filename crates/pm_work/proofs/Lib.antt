@@ -16,3 +16,5 @@ pub mod Uniqueness
 pub mod LeftOrder
 pub mod Flags
 pub mod FirstBounds
+pub mod Numbered
+pub mod Gauges

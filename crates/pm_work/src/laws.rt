@@ -7,7 +7,7 @@ ghost use Rattle.pm_plan.specs.Outputs.{output, sought};
 ghost use Rattle.pm_plan.specs.Unique.{unique_on};
 ghost use Rattle.pm_work.specs.Events.{Event, events, rows_at, counts};
 ghost use Rattle.pm_work.specs.Work.{whole_work};
-ghost use Rattle.pm_work.specs.Moments.{counts_at};
+ghost use Rattle.pm_work.specs.Moments.{Counts, HasGauges, gauges_of, gauge_in, counts_at};
 ghost use Rattle.pm_work.specs.Orderly.{Orderly};
 ghost use Rattle.pm_work.specs.Facts.{KeysDiffer, AtMostOne, AllFlagsHold, MergesAscend};
 ghost use Rattle.pm_work.specs.First.{first_hi, first_seek};
@@ -59,4 +59,10 @@ pub fn moments_are_orderly()
 pub fn rows_within_first()
     ensures { (db : Db) (tree : Tree) → IsSound db tree → Each (λ t n. length (output db t) ≤ first_hi (sizes_of db) t)
         (λ left seek n. length (sought db seek (output db left)) ≤ first_seek (sizes_of db) seek (first_hi (sizes_of db) left)) tree 1 }
+{}
+
+/// The gauges in preorder are read by the numbers of their nodes, one for each.
+pub fn gauges_are_read()
+    ensures gauges { (db : Db) (tree : Tree) (K : Counts) → HasGauges db tree 1 K (gauge_in (gauges_of db tree 1 K)) }
+    ensures each_node { (db : Db) (tree : Tree) (n : ℕ) (K : Counts) → length (gauges_of db tree n K) ≡ size tree }
 {}
