@@ -15,3 +15,4 @@ pub mod RowsOnce
 pub mod Once
 pub mod Loads
 pub mod Streamed
+pub mod Rising

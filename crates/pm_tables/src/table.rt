@@ -1,4 +1,4 @@
-ghost use Rattle.std.specs.Prelude.{◌≡◌, ◌≢◌, ◌<◌, ◌≤◌, ◌+◌, ◌^◌, ℕ, All, IfErr, IfOk, MatchOption, get_or, length};
+ghost use Rattle.std.specs.Prelude.{◌≡◌, ◌≢◌, ◌<◌, ◌≤◌, ◌+◌, ◌^◌, ℕ, All, IfErr, IfOk, IsTrue, MatchOption, get_or, length};
 ghost use Rattle.pm_values.specs.Order.{Ascends, IsKey, NamesColumns, pick_at};
 ghost use Rattle.pm_values.specs.Table.{FitsColumns, HasScale};
 ghost use Rattle.pm_tables.specs.Keys.{AreChained, IsLatest, bucket_at};
@@ -21,7 +21,7 @@ pub fn finish(alloc: Global, decl: TableDecl, rows: Rows) -> Result<Table, DataB
     ensures refused { IfErr result (FaultsTable decl rows) }
 {
     if let Some(columns) = decl.key() {
-        if let Some((first, second)) = first_repeat(alloc, rows.as_slice(), columns.as_slice())? {
+        if let Some((first, second)) = repeat(alloc, rows.as_slice(), columns.as_slice())? {
             return Err(DataBad::DoubleKey(first + 1, second + 1));
         }
     }
@@ -45,6 +45,33 @@ fn first_fall(rows: &[Row], columns: &[u32]) -> Option<u32>
         }
     }
     None
+}
+
+/// The first row that agrees with an earlier one in these columns. Rows that rise by them need no search.
+fn repeat(alloc: Global, rows: &[Row], columns: &[u32]) -> Result<Option<(u32, u32)>, DataBad>
+    requires few { length rows.now ≤ 2 ^ 24 }
+    requires columns { HaveColumns columns.now rows.now }
+    ensures found { IfOk result (λ found. MatchOption found (IsKey columns.now rows.now)
+        (λ pair. (pair.0 < 2 ^ 24) × (pair.1 < 2 ^ 24) × RepeatsFirst columns.now rows.now pair.0 pair.1)) }
+    ensures refused { IfErr result (λ e. e ≡ DataBad.Memory) }
+{
+    if rises(rows, columns) {
+        return Ok(None);
+    }
+    first_repeat(alloc, rows, columns)
+}
+
+/// Whether each row is above the one before it by these columns, so that no two agree in them.
+fn rises(rows: &[Row], columns: &[u32]) -> bool
+    requires columns { HaveColumns columns.now rows.now }
+    ensures { IsTrue result → IsKey columns.now rows.now }
+{
+    for next in 1..rows.len() {
+        if compare_chosen(&rows[next - 1], &rows[next], columns) != Ordering::Less {
+            return false;
+        }
+    }
+    true
 }
 
 /// The places, from 0, of the first row that agrees with an earlier one in these columns: the earlier one's, and its own.
