@@ -4,6 +4,7 @@
 #![tactic(auto)]
 
 pub mod gauge;
+mod numbering;
 pub mod plan;
 
 pub use gauge::{Bound, Gauge, Shown, Whole};
