@@ -1,5 +1,5 @@
 -- what a condition is on a row: true, false or unknown, by Kleene's tables
-use Rattle.std.specs.Prelude.{ℕ, Bool, true, false, not, ◌^◌, ◌*ℤ◌, pos, List, [], ◌∷◌, map}
+use Rattle.std.specs.Prelude.{ℕ, Bool, true, false, not, ◌^◌, ◌*ℤ◌, pos, List, [], ◌∷◌}
 use Rattle.std.specs.declared.cmp.Ordering.{Ordering}
 use Rattle.std.specs.declared.cmp.Ordering.TheVariants as ordering
 use Rattle.std.specs.Ordering.{int_cmp}

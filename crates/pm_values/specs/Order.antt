@@ -1,5 +1,5 @@
 -- the total order on values and on lists of values, and when KEY and ORDER hold of rows
-use Rattle.std.specs.Prelude.{◌≢◌, ◌<◌, ℕ, suc, Bool, true, false, List, [], length, get_or, map, Option, None, Some}
+use Rattle.std.specs.Prelude.{◌≢◌, ◌<◌, ℕ, suc, Bool, true, false, List, [], length, get_or, Option, None, Some}
 use Rattle.std.specs.declared.cmp.Ordering.{Ordering}
 use Rattle.std.specs.declared.cmp.Ordering.TheVariants as ordering
 use Rattle.std.specs.Ordering.{int_cmp, nat_cmp}

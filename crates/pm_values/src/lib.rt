@@ -7,6 +7,7 @@
 pub mod condition;
 pub mod gate;
 pub mod items;
+pub mod laws;
 pub mod order;
 pub mod print;
 pub mod table;
