@@ -1,1 +1,3 @@
 pub mod Preorders
+pub mod Inversion
+pub mod Ends

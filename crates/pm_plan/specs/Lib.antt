@@ -7,5 +7,6 @@ pub mod Preorder
 pub mod Outputs
 pub mod Kinds
 pub mod Unique
+pub mod Standing
 pub mod Right
 pub mod Worked

@@ -1,7 +1,8 @@
-ghost use Rattle.std.specs.Prelude.{◌≡◌, ◌+◌, ◌-◌, ◌≤◌, ◌<◌, ◌^◌, ℕ, length, max, slice_get, Some, OnSome, MatchOption};
+ghost use Rattle.std.specs.Prelude.{◌≡◌, ◌↔◌, ◌+◌, ◌-◌, ◌≤◌, ◌<◌, ◌^◌, ℕ, IsTrue, length, slice_get, Some, OnSome};
 ghost use Rattle.std.specs.Option.{option_copied};
 ghost use Rattle.pm_plan.specs.Tree.{Tree, size};
-ghost use Rattle.pm_plan.specs.Preorder.{Heads};
+ghost use Rattle.pm_plan.specs.Preorder.{IsNumbered};
+ghost use Rattle.pm_plan.specs.Standing.{IsSeekAt, IsEnd};
 
 use crate::plan::Node;
 
@@ -14,8 +15,22 @@ pub fn node_at(nodes: &[Node], n: usize) -> Option<&Node>
     nodes.get(n.saturating_sub(1))
 }
 
+// Whether a Seek of this left side stands at this number.
+fn is_seek(nodes: &[Node], n: usize, left: u32) -> bool
+    ensures { IsTrue result ↔ IsSeekAt nodes.now n left }
+{
+    let Some(node) = node_at(nodes, n) else {
+        return false;
+    };
+    match node {
+        Node::Seek { left: own, .. } => *own == left,
+        _ => false,
+    }
+}
+
+// The number behind the tree that stands at this one, or None where none does.
 fn subtree_end(nodes: &[Node], n: usize) -> Option<usize>
-    ensures size { (t : Tree) → Heads nodes.now t n → result ≡ Some (n + size t) }
+    ensures { IsEnd nodes.now n result }
 {
     let node = node_at(nodes, n)?;
     match node {
@@ -24,21 +39,39 @@ fn subtree_end(nodes: &[Node], n: usize) -> Option<usize>
         | Node::Project { child, .. }
         | Node::Sort { child, .. }
         | Node::Group { child, .. } => {
-            if *child as usize == n + 1 {
-                subtree_end(nodes, n + 1)
+            if *child as usize != n + 1 {
+                return None;
+            }
+            subtree_end(nodes, n + 1)
+        }
+        Node::Hash { left, right, .. } | Node::Merge { left, right, .. } => {
+            if *left as usize != n + 1 {
+                return None;
+            }
+            let end = subtree_end(nodes, n + 1)?;
+            if *right as usize != end {
+                return None;
+            }
+            subtree_end(nodes, end)
+        }
+        Node::Index { left, seek, .. } => {
+            if *left as usize != n + 1 {
+                return None;
+            }
+            let end = subtree_end(nodes, n + 1)?;
+            if *seek as usize == end && is_seek(nodes, end, *left) {
+                Some(end + 1)
             } else {
                 None
             }
         }
-        Node::Hash { left, right, .. } | Node::Merge { left, right, .. } => {
-            if *left as usize == n + 1 {
-                let end = subtree_end(nodes, n + 1)?;
-                if *right as usize == end {
-                    return subtree_end(nodes, end);
-                }
-            }
-            None
-        }
-        _ => None,
+        Node::Seek { .. } => None,
     }
+}
+
+/// Whether the nodes are one tree, numbered in preorder from 1.
+pub fn is_numbered(nodes: &[Node]) -> bool
+    ensures { IsTrue result ↔ IsNumbered nodes.now }
+{
+    subtree_end(nodes, 1) == Some(nodes.len() + 1)
 }

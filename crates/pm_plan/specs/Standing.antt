@@ -1,0 +1,36 @@
+-- where a whole tree or a Seek stands in a list of nodes, and what its rows are
+use Rattle.std.specs.Prelude.{◌≡◌, ◌+◌, ◌-◌, ℕ, Bool, List, length, slice_get, Option, Some, IfSome}
+use Rattle.pm_values.specs.declared.value.Kind.{Kind}
+use Rattle.pm_values.specs.Table.{Declaration}
+use Rattle.pm_plan.specs.declared.plan.Node.{Node}
+use Rattle.pm_plan.specs.Tree.{Tree, Seek, size}
+use Rattle.pm_plan.specs.Preorder.{Piece, Whole, Part, Heads, seek_node}
+use Rattle.pm_plan.specs.Kinds.{kinds_of, table_kinds}
+use Rattle.pm_plan.specs.Unique.{unique_on, unique_table}
+
+-- node n of the list, counted from 1, is a Seek of this left side
+abbrev pub IsSeekAt : List Node → ℕ → ℕ → Type 0
+IsSeekAt nodes n left = (s : Seek) × (slice_get nodes (n - 1) ≡ Some (seek_node s left))
+
+-- node n of the list, counted from 1, is the tree's root or the Seek
+abbrev pub Stands : List Node → Piece → ℕ → Type 0
+Stands nodes (Whole t) n = Heads nodes t n
+Stands nodes (Part s) n = (left : ℕ) × (slice_get nodes (n - 1) ≡ Some (seek_node s left))
+
+-- the number behind the tree that stands at number n, none where no tree stands there
+pub record IsEnd (nodes : List Node) (n : ℕ) (end : Option ℕ) : Type 0 where
+  pub found : (t : Tree) → Heads nodes t n → end ≡ Some (n + size t)
+  pub right : IfSome end (λ e. (t : Tree) × Heads nodes t n × (e ≡ n + size t))
+
+-- the kinds of its rows' columns
+abbrev pub piece_kinds : List Declaration → Piece → List Kind
+piece_kinds decls (Whole t) = kinds_of decls t
+piece_kinds decls (Part s) = table_kinds decls s.table
+
+abbrev pub piece_width : List Declaration → Piece → ℕ
+piece_width decls p = length (piece_kinds decls p)
+
+-- no two of its rows agree in the columns
+abbrev pub piece_unique : List Declaration → Piece → List ℕ → Bool
+piece_unique decls (Whole t) columns = unique_on decls t columns
+piece_unique decls (Part s) columns = unique_table decls s.table columns
