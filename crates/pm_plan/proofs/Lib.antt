@@ -1,3 +1,5 @@
 pub mod Preorders
 pub mod Inversion
+pub mod Lists
 pub mod Ends
+pub mod Pieces

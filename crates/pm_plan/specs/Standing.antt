@@ -1,11 +1,12 @@
 -- where a whole tree or a Seek stands in a list of nodes, and what its rows are
-use Rattle.std.specs.Prelude.{◌≡◌, ◌+◌, ◌-◌, ℕ, Bool, List, length, slice_get, Option, Some, IfSome}
+use Rattle.std.specs.Prelude.{◌≡◌, ◌+◌, ◌-◌, ℕ, Bool, List, length, slice_get, Option, None, Some, IfSome}
 use Rattle.pm_values.specs.declared.value.Kind.{Kind}
+use Rattle.pm_values.specs.declared.value.Kind.TheVariants as kind
 use Rattle.pm_values.specs.Table.{Declaration}
 use Rattle.pm_plan.specs.declared.plan.Node.{Node}
 use Rattle.pm_plan.specs.Tree.{Tree, Seek, size}
 use Rattle.pm_plan.specs.Preorder.{Piece, Whole, Part, Heads, seek_node}
-use Rattle.pm_plan.specs.Kinds.{kinds_of, table_kinds}
+use Rattle.pm_plan.specs.Kinds.{kinds_of, table_kinds, kind_at}
 use Rattle.pm_plan.specs.Unique.{unique_on, unique_table}
 
 -- node n of the list, counted from 1, is a Seek of this left side
@@ -34,3 +35,8 @@ piece_width decls p = length (piece_kinds decls p)
 abbrev pub piece_unique : List Declaration → Piece → List ℕ → Bool
 piece_unique decls (Whole t) columns = unique_on decls t columns
 piece_unique decls (Part s) columns = unique_table decls s.table columns
+
+-- the kind of the column that a kind is taken from, and of a count where there is none
+abbrev pub origin_kind : List Kind → Option ℕ → Kind
+origin_kind kinds None = kind.Int
+origin_kind kinds (Some column) = kind_at kinds column

@@ -4,6 +4,7 @@
 #![tactic(auto)]
 
 pub mod gauge;
+mod kinds;
 pub mod laws;
 mod numbering;
 pub mod plan;

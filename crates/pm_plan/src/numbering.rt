@@ -1,4 +1,4 @@
-ghost use Rattle.std.specs.Prelude.{◌≡◌, ◌↔◌, ◌+◌, ◌-◌, ◌≤◌, ◌<◌, ◌^◌, ℕ, IsTrue, length, slice_get, Some, OnSome};
+ghost use Rattle.std.specs.Prelude.{◌≡◌, ◌↔◌, ◌+◌, ◌-◌, ◌≤◌, ◌<◌, ◌^◌, ℕ, IsTrue, length, max, slice_get, Some, OnSome};
 ghost use Rattle.std.specs.Option.{option_copied};
 ghost use Rattle.pm_plan.specs.Tree.{Tree, size};
 ghost use Rattle.pm_plan.specs.Preorder.{IsNumbered};
@@ -13,6 +13,14 @@ pub fn node_at(nodes: &[Node], n: usize) -> Option<&Node>
     ensures bound { length nodes.now < 2 ^ 63 }
 {
     nodes.get(n.saturating_sub(1))
+}
+
+/// The number of a right side of the node of number `n`: this one, where it is behind `n`.
+pub fn behind(n: usize, number: u32) -> usize
+    requires { n < 2 ^ 63 }
+    ensures { result ≡ max (n + 1) number }
+{
+    (n + 1).max(number as usize)
 }
 
 // Whether a Seek of this left side stands at this number.

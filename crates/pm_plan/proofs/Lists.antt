@@ -1,0 +1,24 @@
+-- look-ups in lists
+use Rattle.std.proofs.Common.{◌≡◌, ◌≤◌, ◌<◌, ℕ, suc, zero, ◌+◌, ◌-◌, List, [], ◌∷◌, ◌++◌, length, map, Option, Some, None, unwrap_or, get_or, slice_get, refl, sym, ap, ◌∙◌, subst, arith}
+use Rattle.std.specs.Option.{option_map}
+use Rattle.std.proofs.lemmas.Option.{slice_get-map, unwrap_or-slice_get}
+
+pub slice_get-append_left : {A : Type 0} (a b : List A) (i : ℕ) → i < length a → slice_get (a ++ b) i ≡ slice_get a i
+slice_get-append_left [] b i h = absurd (omega arith)
+slice_get-append_left (x ∷ a) b zero h = refl
+slice_get-append_left (x ∷ a) b (suc i) h = slice_get-append_left a b i (omega arith)
+
+pub slice_get-append_right : {A : Type 0} (a b : List A) (i j : ℕ) → i ≡ length a + j → slice_get (a ++ b) i ≡ slice_get b j
+slice_get-append_right [] b i j e = ap (slice_get b) (omega arith)
+slice_get-append_right (x ∷ a) b zero j e = absurd (omega arith)
+slice_get-append_right (x ∷ a) b (suc i) j e = slice_get-append_right a b i j (omega arith)
+
+-- what is chosen by a list of places
+pub chosen_none : {A B : Type 0} (f : A → B) (xs : List A) (i : ℕ) → None ≡ slice_get xs i → slice_get (map f xs) i ≡ None
+chosen_none f xs i e = slice_get-map f xs i ∙ ap (option_map f) (sym e)
+
+pub chosen_some : {A B : Type 0} (f : A → B) (xs : List A) (i : ℕ) (x : A) → Some x ≡ slice_get xs i → slice_get (map f xs) i ≡ Some (f x)
+chosen_some f xs i x e = slice_get-map f xs i ∙ ap (option_map f) (sym e)
+
+pub got_or : {A : Type 0} (xs : List A) (i : ℕ) (d : A) (o : Option A) (r : A) → r ≡ unwrap_or o d → o ≡ slice_get xs i → r ≡ get_or xs i d
+got_or xs i d o r e k = e ∙ ap (λ q. unwrap_or q d) k ∙ unwrap_or-slice_get xs i d
