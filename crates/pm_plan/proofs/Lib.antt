@@ -3,3 +3,4 @@ pub mod Inversion
 pub mod Lists
 pub mod Ends
 pub mod Pieces
+pub mod Agreement

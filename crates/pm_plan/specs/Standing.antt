@@ -1,13 +1,16 @@
 -- where a whole tree or a Seek stands in a list of nodes, and what its rows are
-use Rattle.std.specs.Prelude.{◌≡◌, ◌+◌, ◌-◌, ℕ, Bool, List, length, slice_get, Option, None, Some, IfSome}
+use Rattle.std.specs.Prelude.{◌≡◌, ◌+◌, ◌-◌, ℕ, Bool, List, length, map, slice_get, Option, None, Some, IfSome}
 use Rattle.pm_values.specs.declared.value.Kind.{Kind}
 use Rattle.pm_values.specs.declared.value.Kind.TheVariants as kind
 use Rattle.pm_values.specs.Table.{Declaration}
 use Rattle.pm_plan.specs.declared.plan.Node.{Node}
+use Rattle.pm_plan.specs.declared.plan.Pair.{Pair}
+use Rattle.pm_plan.specs.declared.uniqueness.Side.{Side}
+use Rattle.pm_plan.specs.declared.uniqueness.Side.TheVariants as side
 use Rattle.pm_plan.specs.Tree.{Tree, Seek, size}
 use Rattle.pm_plan.specs.Preorder.{Piece, Whole, Part, Heads, seek_node}
 use Rattle.pm_plan.specs.Kinds.{kinds_of, table_kinds, kind_at}
-use Rattle.pm_plan.specs.Unique.{unique_on, unique_table}
+use Rattle.pm_plan.specs.Unique.{unique_on, unique_table, left_part}
 
 -- node n of the list, counted from 1, is a Seek of this left side
 abbrev pub IsSeekAt : List Node → ℕ → ℕ → Type 0
@@ -40,3 +43,15 @@ piece_unique decls (Part s) columns = unique_table decls s.table columns
 abbrev pub origin_kind : List Kind → Option ℕ → Kind
 origin_kind kinds None = kind.Int
 origin_kind kinds (Some column) = kind_at kinds column
+
+-- the columns of one side of pairs
+abbrev pub side_column : Side → Pair → ℕ
+side_column side.Left pair = pair.left
+side_column side.Right pair = pair.right
+
+abbrev pub side_columns : Side → List Pair → List ℕ
+side_columns side pairs = map (side_column side) pairs
+
+-- the same columns of so many, in the same order
+abbrev pub AgreeBelow : ℕ → List ℕ → List ℕ → Type 0
+AgreeBelow wide a b = left_part wide a ≡ left_part wide b

@@ -8,6 +8,7 @@ mod kinds;
 pub mod laws;
 mod numbering;
 pub mod plan;
+mod uniqueness;
 
 pub use gauge::{Bound, Gauge, Shown, Whole};
 pub use plan::{
