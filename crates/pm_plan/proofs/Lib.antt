@@ -4,3 +4,4 @@ pub mod Lists
 pub mod Ends
 pub mod Pieces
 pub mod Agreement
+pub mod Conditions

@@ -7,9 +7,11 @@ use Rattle.pm_plan.specs.declared.plan.Node.{Node}
 use Rattle.pm_plan.specs.declared.plan.Pair.{Pair}
 use Rattle.pm_plan.specs.declared.uniqueness.Side.{Side}
 use Rattle.pm_plan.specs.declared.uniqueness.Side.TheVariants as side
+use Rattle.pm_plan.specs.declared.fits.OperandClass.{OperandClass}
+use Rattle.pm_plan.specs.declared.fits.OperandClass.TheVariants as class
 use Rattle.pm_plan.specs.Tree.{Tree, Seek, size}
 use Rattle.pm_plan.specs.Preorder.{Piece, Whole, Part, Heads, seek_node}
-use Rattle.pm_plan.specs.Kinds.{kinds_of, table_kinds, kind_at}
+use Rattle.pm_plan.specs.Kinds.{kinds_of, table_kinds, kind_at, OperandKind, OfColumn, OfNull, OfNumber, OfText}
 use Rattle.pm_plan.specs.Unique.{unique_on, unique_table, left_part}
 
 -- node n of the list, counted from 1, is a Seek of this left side
@@ -55,3 +57,9 @@ side_columns side pairs = map (side_column side) pairs
 -- the same columns of so many, in the same order
 abbrev pub AgreeBelow : ℕ → List ℕ → List ℕ → Type 0
 AgreeBelow wide a b = left_part wide a ≡ left_part wide b
+
+abbrev pub operand_class : OperandClass → OperandKind
+operand_class (class.Column k) = OfColumn k
+operand_class class.Null = OfNull
+operand_class class.Number = OfNumber
+operand_class class.Text = OfText

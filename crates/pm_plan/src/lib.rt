@@ -3,6 +3,7 @@
 //! `check_plan` says whether a plan is right for the tables that are declared.
 #![tactic(auto)]
 
+mod fits;
 pub mod gauge;
 mod kinds;
 pub mod laws;
