@@ -5,3 +5,4 @@ pub mod Ends
 pub mod Pieces
 pub mod Agreement
 pub mod Conditions
+pub mod Shapes

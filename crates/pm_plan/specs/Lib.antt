@@ -8,5 +8,6 @@ pub mod Outputs
 pub mod Kinds
 pub mod Unique
 pub mod Standing
+pub mod Fitting
 pub mod Right
 pub mod Worked

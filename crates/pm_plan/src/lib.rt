@@ -9,6 +9,7 @@ mod kinds;
 pub mod laws;
 mod numbering;
 pub mod plan;
+mod shape;
 mod uniqueness;
 
 pub use gauge::{Bound, Gauge, Shown, Whole};
