@@ -6,3 +6,4 @@ pub mod Pieces
 pub mod Agreement
 pub mod Conditions
 pub mod Shapes
+pub mod Rules

@@ -9,8 +9,8 @@ use crate::kinds::{TOO_MANY, kind_at};
 use crate::plan::{Aggregate, Node, Pair};
 use pm_values::{Cond, Kind, Operand, TableDecls, Value};
 
-// Whether two columns of these kinds can be compared.
-fn same_kind(a: Kind, b: Kind) -> bool
+/// Whether two columns of these kinds can be compared, which is where the kinds are equal.
+pub fn same_kind(a: Kind, b: Kind) -> bool
     ensures { result ≡ same_kind a b }
 {
     match (a, b) {

@@ -9,6 +9,7 @@ mod kinds;
 pub mod laws;
 mod numbering;
 pub mod plan;
+pub mod right;
 mod shape;
 mod uniqueness;
 
@@ -16,3 +17,4 @@ pub use gauge::{Bound, Gauge, Shown, Whole};
 pub use plan::{
     Aggregate, Aggregates, Label, Node, Nodes, Pair, Pairs, Plan, SortKey, SortKeys, Unique,
 };
+pub use right::check_plan;
