@@ -1,5 +1,5 @@
 -- columns that agree below a width, and what is unique on them
-use Rattle.std.proofs.Common.{◌≡◌, ◌⊎◌, ◌≤◌, ◌<◌, ℕ, suc, zero, ◌+◌, ◌-◌, Bool, true, false, ◌&&◌, ◌||◌, eqb, ltb, List, [], ◌∷◌, ◌++◌, length, max, map, filter, get_or, Option, Some, None, refl, sym, ap, ◌∙◌, subst, inl, inr, arith}
+use Rattle.std.proofs.Common.{◌≡◌, ◌⊎◌, ◌≤◌, ◌<◌, ℕ, suc, ◌+◌, ◌-◌, true, false, ◌&&◌, ◌||◌, List, [], ◌∷◌, ◌++◌, length, max, get_or, Option, Some, refl, sym, ap, ◌∙◌, subst, inl, inr, arith}
 use Rattle.std.specs.Prelude.{nat_eq, nat_lt, slice_get}
 use Rattle.std.specs.List.{list_any, list_all}
 use Rattle.std.proofs.lemmas.Bool.Decides.{nat_tests}
@@ -11,10 +11,9 @@ use Rattle.pm_plan.specs.declared.plan.Aggregate.{Aggregate}
 use Rattle.pm_plan.specs.declared.plan.Pair.{Pair}
 use Rattle.pm_plan.specs.declared.plan.Unique.{Unique}
 use Rattle.pm_plan.specs.declared.uniqueness.Side.{Side}
-use Rattle.pm_plan.specs.declared.uniqueness.Side.TheVariants as side
 use Rattle.pm_plan.specs.Joins.{right_columns}
-use Rattle.pm_plan.specs.Tree.{Tree, Scan, Filter, Project, Sort, Group, Hash, Merge, Index, Seek, size}
-use Rattle.pm_plan.specs.Preorder.{Piece, Whole, Part, Heads, seek_node}
+use Rattle.pm_plan.specs.Tree.{Tree, Project, Group, Hash, Merge, Index, Seek, size}
+use Rattle.pm_plan.specs.Preorder.{Piece, Heads, seek_node}
 use Rattle.pm_plan.specs.Kinds.{kinds_of, table_kinds, width}
 use Rattle.pm_plan.specs.Unique.{unique_on, unique_table, left_part}
 use Rattle.pm_plan.specs.Standing.{Stands, piece_kinds, piece_unique, side_column, side_columns, AgreeBelow}
@@ -28,8 +27,8 @@ any_below : (w k : ℕ) → k < w → (columns : List ℕ) → list_any (nat_eq 
 any_below w k h [] = refl
 any_below w k h (x ∷ columns) =
     elim (nat_lt x w) as (λ b. nat_lt x w ≡ b → list_any (nat_eq k) (left_part w (x ∷ columns)) ≡ list_any (nat_eq k) (x ∷ columns)) [
-      true ↦ (λ e. rw e (ap (λ b. nat_eq k x || b) (any_below w k h columns)))
-    | false ↦ (λ e. let far : nat_eq k x ≡ false = grind (arith, nat_tests) in rw (e, far) (any_below w k h columns))
+      | true ↦ (λ e. rw e (ap (λ b. nat_eq k x || b) (any_below w k h columns)))
+      | false ↦ (λ e. let far : nat_eq k x ≡ false = grind (arith, nat_tests) in rw (e, far) (any_below w k h columns))
     ] refl
 
 pub key_same : (w : ℕ) (key a : List ℕ) (s : Side) (pairs : List Pair) → ((k : ℕ) → k < length key → get_or key k 0 < w) → AgreeBelow w a (side_columns s pairs)
@@ -45,12 +44,12 @@ part_of_part : (v w : ℕ) → v ≤ w → (columns : List ℕ) → left_part v 
 part_of_part v w h [] = refl
 part_of_part v w h (x ∷ columns) =
     elim (nat_lt x w) as (λ b. nat_lt x w ≡ b → left_part v (left_part w (x ∷ columns)) ≡ left_part v (x ∷ columns)) [
-      true ↦ (λ e. let more = part_of_part v w h columns in rw e (
-        elim (nat_lt x v) as (λ b. nat_lt x v ≡ b → left_part v (x ∷ left_part w columns) ≡ left_part v (x ∷ columns)) [
-          true ↦ (λ k. rw k (ap (λ s. x ∷ s) more))
-        | false ↦ (λ k. rw k more)
-        ] refl))
-    | false ↦ (λ e. let far : nat_lt x v ≡ false = grind (arith, nat_tests) in rw (e, far) (part_of_part v w h columns))
+      | true ↦ (λ e. let more = part_of_part v w h columns in rw e (
+          elim (nat_lt x v) as (λ b. nat_lt x v ≡ b → left_part v (x ∷ left_part w columns) ≡ left_part v (x ∷ columns)) [
+            | true ↦ (λ k. rw k (ap (λ s. x ∷ s) more))
+            | false ↦ (λ k. rw k more)
+          ] refl))
+      | false ↦ (λ e. let far : nat_lt x v ≡ false = grind (arith, nat_tests) in rw (e, far) (part_of_part v w h columns))
     ] refl
 
 pub agree_left : (v w : ℕ) (a b : List ℕ) → v ≤ w → AgreeBelow w a b → AgreeBelow v (left_part v a) b

@@ -1,9 +1,9 @@
 -- what a condition's fit is at each kind of condition
-use Rattle.std.proofs.Common.{◌≡◌, Bool, List, map, sym, ap, ◌∙◌}
+use Rattle.std.proofs.Common.{◌≡◌, Bool, List, sym, ap, ◌∙◌}
 use Rattle.std.specs.List.{list_all}
 use Rattle.std.proofs.lemmas.List.Folds.{list_all-map}
 use Rattle.pm_values.specs.declared.value.Kind.{Kind}
-use Rattle.pm_values.specs.declared.condition.Cond.{Cond, fold-Cond}
+use Rattle.pm_values.specs.declared.condition.Cond.{Cond}
 use Rattle.pm_values.specs.declared.condition.Cond.TheVariants as cond
 use Rattle.pm_values.specs.declared.condition.Cond.TheOpen as layer
 use Rattle.pm_values.specs.declared.condition.Cond.TheFolds.{fold-roll-Cond}

@@ -1,9 +1,9 @@
 -- where a tree ends in a list of nodes, by the node that it begins with
-use Rattle.std.proofs.Common.{◌≡◌, ◌⊎◌, ◌↔◌, ◌≤◌, ◌<◌, ℕ, suc, ◌+◌, ◌-◌, List, [], ◌∷◌, ◌++◌, length, drop, Option, Some, None, refl, sym, ap, ◌∙◌, subst, inl, inr, arith, append_assoc, length-append}
+use Rattle.std.proofs.Common.{◌≡◌, ◌⊎◌, ◌↔◌, ℕ, suc, ◌+◌, ◌-◌, List, [], ◌∷◌, ◌++◌, length, drop, Option, Some, None, refl, sym, ap, ◌∙◌, subst, inl, inr, arith, append_assoc}
 use Rattle.std.proofs.Common.{add-one, drop-cons}
 use Rattle.std.proofs.lemmas.List.{append-nil, drop_all}
 use Rattle.std.proofs.lemmas.Option.{slice_get_within, get_or_from_slice_get}
-use Rattle.std.specs.Prelude.{slice_get, IfSome, IsTrue, get_or}
+use Rattle.std.specs.Prelude.{slice_get, IfSome}
 use Rattle.pm_values.specs.declared.condition.Cond.{Cond}
 use Rattle.pm_plan.specs.declared.plan.Node.{Node}
 use Rattle.pm_plan.specs.declared.plan.Node.TheVariants as node
@@ -12,10 +12,10 @@ use Rattle.pm_plan.specs.declared.plan.Aggregate.{Aggregate}
 use Rattle.pm_plan.specs.declared.plan.Label.{Label}
 use Rattle.pm_plan.specs.declared.plan.Pair.{Pair}
 use Rattle.pm_plan.specs.declared.plan.Unique.{Unique}
-use Rattle.pm_plan.specs.Tree.{Tree, Scan, Filter, Project, Sort, Group, Hash, Merge, Index, Seek, size}
-use Rattle.pm_plan.specs.Preorder.{Piece, Whole, Part, Heads, seek_node, nodes_of, tree_of, IsNumbered}
-use Rattle.pm_plan.specs.Standing.{Stands, IsSeekAt, IsEnd}
-use Rattle.pm_plan.proofs.Inversion.{OverOne, OverTwo, OverSeek, begins, some_same}
+use Rattle.pm_plan.specs.Tree.{Tree, Scan, Filter, Project, Sort, Group, Hash, Merge, Index, size}
+use Rattle.pm_plan.specs.Preorder.{Whole, Part, Heads, seek_node, nodes_of, tree_of, IsNumbered}
+use Rattle.pm_plan.specs.Standing.{IsSeekAt, IsEnd}
+use Rattle.pm_plan.proofs.Inversion.{OverOne, OverTwo, OverSeek, begins}
 use Rattle.pm_plan.proofs.Preorders.{tree_of-nodes_of, length-nodes_of, Heads-tree_of}
 
 -- the node at the root
@@ -39,7 +39,7 @@ pub scan_end : (nodes : List Node) (n table : ℕ) (label : Label) → slice_get
 scan_end nodes n table label e =
     record {
       found = λ t h. let p : Whole t ≡ Whole (Scan table label) = begins nodes (Whole t) n (node.Scan table label) e h in
-      let q : t ≡ Scan table label = cc in ap (λ u. Some (n + size u)) (sym q);
+          let q : t ≡ Scan table label = cc in ap (λ u. Some (n + size u)) (sym q);
       right = (Scan table label, e, refl);
     }
 
@@ -161,10 +161,10 @@ twin_end nodes n left right end x r w e k j one two =
     let s = twin_of nodes n left right x w e in
     record {
       found = λ t h. let i = s.split t h in
-      let a : Some end ≡ Some (n + 1 + size i.left_tree) = one.found i.left_tree i.left_heads in
-      let b : end ≡ n + 1 + size i.left_tree = cc in
-      let c : r ≡ Some (end + size i.right_tree) = two.found i.right_tree (subst (λ m. Heads nodes i.right_tree m) (sym b) i.right_heads) in
-      c ∙ ap (λ m. Some m) (omega (arith, s.sized i.left_tree i.right_tree, ap size (whole_same i.is)));
+          let a : Some end ≡ Some (n + 1 + size i.left_tree) = one.found i.left_tree i.left_heads in
+          let b : end ≡ n + 1 + size i.left_tree = cc in
+          let c : r ≡ Some (end + size i.right_tree) = two.found i.right_tree (subst (λ m. Heads nodes i.right_tree m) (sym b) i.right_heads) in
+          c ∙ ap (λ m. Some m) (omega (arith, s.sized i.left_tree i.right_tree, ap size (whole_same i.is)));
       right = built_two s one.right r two.right;
     }
   where
@@ -198,17 +198,17 @@ pub index_end : (nodes : List Node) (n left seek end : ℕ) (cond : Option Cond)
 index_end nodes n left seek end cond e k j deep s =
     record {
       found = λ t h. let i : OverSeek nodes (Whole t) n (λ l s. Index l s cond) left seek = begins nodes (Whole t) n (node.Index left seek cond) e h in
-      let a = deep.found i.left_tree i.left_heads in
-      let b : end ≡ n + 1 + size i.left_tree = cc in
-      ap (λ m. Some m) (omega (arith, ap size (whole_same i.is)));
+          let a = deep.found i.left_tree i.left_heads in
+          let b : end ≡ n + 1 + size i.left_tree = cc in
+          ap (λ m. Some m) (omega (arith, ap size (whole_same i.is)));
       right =
-      let l = deep.right in
-      let at : slice_get nodes (end - 1) ≡ Some (seek_node s.0 left) = s.1 in
-      let a : end ≡ n + 1 + size l.0 = l.2 in
-      let here : end - 1 ≡ n + size l.0 = omega (arith, a) in
-      let seen : slice_get nodes (n + size l.0) ≡ Some (seek_node s.0 (n + 1)) =
-      subst (λ m. slice_get nodes m ≡ Some (seek_node s.0 (n + 1))) here (subst (λ m. slice_get nodes (end - 1) ≡ Some (seek_node s.0 m)) k at) in
-      (Index l.0 s.0 cond, (subst (λ m. slice_get nodes (n - 1) ≡ Some (node.Index (n + 1) m cond)) (j ∙ a) (subst (λ m. slice_get nodes (n - 1) ≡ Some (node.Index m seek cond)) k e), l.1, seen), omega arith);
+          let l = deep.right in
+          let at : slice_get nodes (end - 1) ≡ Some (seek_node s.0 left) = s.1 in
+          let a : end ≡ n + 1 + size l.0 = l.2 in
+          let here : end - 1 ≡ n + size l.0 = omega (arith, a) in
+          let seen : slice_get nodes (n + size l.0) ≡ Some (seek_node s.0 (n + 1)) =
+          subst (λ m. slice_get nodes m ≡ Some (seek_node s.0 (n + 1))) here (subst (λ m. slice_get nodes (end - 1) ≡ Some (seek_node s.0 m)) k at) in
+          (Index l.0 s.0 cond, (subst (λ m. slice_get nodes (n - 1) ≡ Some (node.Index (n + 1) m cond)) (j ∙ a) (subst (λ m. slice_get nodes (n - 1) ≡ Some (node.Index m seek cond)) k e), l.1, seen), omega arith);
     }
 
 drop_next : (nodes : List Node) (k : ℕ) (x : Node) → slice_get nodes k ≡ Some x → drop k nodes ≡ x ∷ drop (k + 1) nodes
@@ -265,8 +265,8 @@ numbered nodes t h e =
 pub end_is : (nodes : List Node) (r : Option ℕ) → IsEnd nodes 1 r → (r ≡ Some (length nodes + 1)) ↔ IsNumbered nodes
 end_is nodes r end = (
   λ e. let d : (t : Tree) × Heads nodes t 1 × (length nodes + 1 ≡ 1 + size t) = subst (λ o. IfSome o (λ e. (t : Tree) × Heads nodes t 1 × (e ≡ 1 + size t))) e end.right in
-  numbered nodes d.0 d.1 (omega (arith, d.2)),
+      numbered nodes d.0 d.1 (omega (arith, d.2)),
   λ is. let heads = Heads-tree_of nodes is in
-  let few : length nodes ≡ size (tree_of nodes) = ap length is ∙ length-nodes_of (tree_of nodes) 1 in
-  end.found (tree_of nodes) heads ∙ ap (λ m. Some m) (omega (arith, few)),
+      let few : length nodes ≡ size (tree_of nodes) = ap length is ∙ length-nodes_of (tree_of nodes) 1 in
+      end.found (tree_of nodes) heads ∙ ap (λ m. Some m) (omega (arith, few)),
 )

@@ -1,17 +1,15 @@
 -- the rows of what stands in a list of nodes, by the node that it begins with
-use Rattle.std.proofs.Common.{◌≡◌, ◌⊎◌, ◌≤◌, ◌<◌, ℕ, ◌+◌, ◌-◌, Bool, List, ◌++◌, length, min, max, map, Option, Some, None, refl, sym, ap, ◌∙◌, subst, inl, inr, arith, length-append}
+use Rattle.std.proofs.Common.{◌≡◌, ◌⊎◌, ℕ, ◌+◌, ◌-◌, List, ◌++◌, max, Option, Some, None, ap, ◌∙◌, subst, inl, inr, arith}
 use Rattle.std.specs.Prelude.{slice_get}
 use Rattle.pm_values.specs.declared.condition.Cond.{Cond}
-use Rattle.pm_values.specs.declared.value.Kind.{Kind}
 use Rattle.pm_values.specs.Table.{Declaration}
 use Rattle.pm_plan.specs.declared.plan.Node.{Node}
 use Rattle.pm_plan.specs.declared.plan.Node.TheVariants as node
 use Rattle.pm_plan.specs.declared.plan.SortKey.{SortKey}
-use Rattle.pm_plan.specs.declared.plan.Aggregate.{Aggregate}
 use Rattle.pm_plan.specs.declared.plan.Label.{Label}
 use Rattle.pm_plan.specs.declared.plan.Pair.{Pair}
 use Rattle.pm_plan.specs.declared.plan.Unique.{Unique}
-use Rattle.pm_plan.specs.Tree.{Tree, Scan, Filter, Project, Sort, Group, Hash, Merge, Index, Seek, size}
+use Rattle.pm_plan.specs.Tree.{Tree, Scan, Filter, Sort, Hash, Merge, Index, size}
 use Rattle.pm_plan.specs.Preorder.{Piece, Whole, Part, Heads, seek_node}
 use Rattle.pm_plan.specs.Kinds.{kinds_of, table_kinds}
 use Rattle.pm_plan.specs.Unique.{unique_on, unique_table}

@@ -1,8 +1,8 @@
 -- what the tests of a right plan say
-use Rattle.std.proofs.Common.{◌≡◌, ◌↔◌, ◌≤◌, ◌<◌, ℕ, suc, zero, ◌+◌, ◌-◌, Bool, true, false, cond, not, eqb, List, [], ◌∷◌, ◌++◌, length, min, map, take, get_or, count_by, Option, Some, refl, sym, ap, ◌∙◌, subst, arith, add-one, length-append}
+use Rattle.std.proofs.Common.{◌≡◌, ◌↔◌, ◌≤◌, ◌<◌, ℕ, suc, zero, ◌+◌, Bool, true, false, cond, List, [], ◌∷◌, ◌++◌, length, take, get_or, count_by, Some, refl, sym, ap, ◌∙◌, subst, arith, add-one, length-append}
 use Rattle.std.proofs.Math.Bool.{beq}
 use Rattle.std.proofs.lemmas.Bool.Decides.{nat_tests}
-use Rattle.std.proofs.lemmas.Bool.{false≢true, not-true, not-false}
+use Rattle.std.proofs.lemmas.Bool.{false≢true}
 use Rattle.std.proofs.lemmas.List.{length-map, take_all}
 use Rattle.std.proofs.lemmas.List.Sums.{sum_by-append}
 use Rattle.std.specs.Prelude.{slice_get, IsTrue}
@@ -10,16 +10,14 @@ use Rattle.pm_values.specs.declared.value.Kind.{Kind}
 use Rattle.pm_values.specs.declared.value.Kind.TheVariants as kind
 use Rattle.pm_values.specs.Table.{Declaration}
 use Rattle.pm_plan.specs.declared.plan.Node.{Node}
-use Rattle.pm_plan.specs.declared.plan.Node.TheVariants as node
 use Rattle.pm_plan.specs.declared.plan.Plan.{Plan}
 use Rattle.pm_plan.specs.declared.plan.Pair.{Pair}
 use Rattle.pm_plan.specs.declared.plan.Unique.{Unique}
 use Rattle.pm_plan.specs.Tree.{Tree, Scan, Filter, Project, Sort, Group, Hash, Merge, Index, Seek, size, total}
-use Rattle.pm_plan.specs.Preorder.{Piece, Whole, Part, Heads, seek_node, nodes_of, tree_of, IsNumbered}
-use Rattle.pm_plan.specs.Kinds.{kinds_of, table_kinds, table_width, columns_of, width, same_kind}
-use Rattle.pm_plan.specs.Right.{PairsFit, IsJoin, IsSeek, IsTable, IsOperator, AreOperators, IsRight, has_block, is_source, tables_at, tables_in}
+use Rattle.pm_plan.specs.Preorder.{Whole, Part, seek_node, nodes_of, tree_of, IsNumbered}
+use Rattle.pm_plan.specs.Kinds.{kinds_of, table_kinds, columns_of, width, same_kind}
+use Rattle.pm_plan.specs.Right.{IsJoin, IsSeek, IsTable, IsOperator, AreOperators, IsRight, has_block, is_source, tables_at, tables_in}
 use Rattle.pm_plan.specs.Fitting.{IsPaired, HasSeek, AreBelow, reads_table}
-use Rattle.pm_plan.proofs.Preorders.{Heads-tree_of}
 
 pub same_bool : (a b : Bool) → IsTrue (beq a b) ↔ (a ≡ b)
 same_bool true true = (λ e. refl, λ e. refl)
@@ -69,8 +67,8 @@ operators_are decls (Merge left right pairs unique) n = (λ a. ((a.0.0, tt), a.0
 operators_are decls (Index left seek cond) n = (
   λ a. ((a.0.0, a.1.0), a.0.1, a.2),
   λ b. let both = length-append (kinds_of decls left) (table_kinds decls seek.table) in
-  let own = length-map (columns_of decls seek.table) (λ column. column.kind) in
-  ((b.0.0, b.1), (b.0.1, omega (arith, b.1)), b.2),
+      let own = length-map (columns_of decls seek.table) (λ column. column.kind) in
+      ((b.0.0, b.1), (b.0.1, omega (arith, b.1)), b.2),
 )
 
 -- how many tables it reads

@@ -1,14 +1,14 @@
 -- the rules of right plans, as they are tested
-use Rattle.std.specs.Prelude.{◌≡◌, ◌<◌, ◌^◌, ◌+◌, ℕ, Bool, true, false, List, Option, None, Some}
+use Rattle.std.specs.Prelude.{◌≡◌, ◌+◌, ℕ, Bool, true, false, List, Option, None, Some}
 use Rattle.pm_values.specs.Table.{Declaration}
 use Rattle.pm_plan.specs.declared.plan.Pair.{Pair}
 use Rattle.pm_plan.specs.declared.plan.Unique.{Unique}
 use Rattle.pm_plan.specs.declared.plan.Node.{Node}
 use Rattle.pm_plan.specs.declared.plan.Node.TheVariants as node
 use Rattle.pm_plan.specs.Joins.{left_columns, right_columns}
-use Rattle.pm_plan.specs.Tree.{Tree, Scan, Filter, Project, Sort, Group, Hash, Merge, Index, Seek, size}
+use Rattle.pm_plan.specs.Tree.{Tree, Scan, Filter, Project, Sort, Group, Hash, Merge, Index, size}
 use Rattle.pm_plan.specs.Preorder.{Piece}
-use Rattle.pm_plan.specs.Right.{PairsFit, IsOperator, IsSeek, AreOperators}
+use Rattle.pm_plan.specs.Right.{PairsFit, IsSeek, AreOperators}
 use Rattle.pm_plan.specs.Standing.{piece_kinds, piece_unique}
 
 -- pairs of two sides, and their flags

@@ -75,8 +75,10 @@ fn classes_fit(a: OperandClass, b: OperandClass) -> bool
         | (OperandClass::Number, OperandClass::Column(k)) => is_number(k),
         (OperandClass::Column(k), OperandClass::Text)
         | (OperandClass::Text, OperandClass::Column(k)) => !is_number(k),
-        (OperandClass::Number, OperandClass::Number) | (OperandClass::Text, OperandClass::Text) => true,
-        (OperandClass::Number, OperandClass::Text) | (OperandClass::Text, OperandClass::Number) => false,
+        (OperandClass::Number, OperandClass::Number) | (OperandClass::Text, OperandClass::Text) =>
+            true,
+        (OperandClass::Number, OperandClass::Text) | (OperandClass::Text, OperandClass::Number) =>
+            false,
     }
 }
 
@@ -93,14 +95,18 @@ fn operand_fits(nodes: &[Node], decls: &TableDecls, n: usize, operand: &Operand)
     }
 }
 
-fn comparison_fits(nodes: &[Node], decls: &TableDecls, n: usize, left: &Operand, right: &Operand) -> bool
+fn comparison_fits(
+    nodes: &[Node],
+    decls: &TableDecls,
+    n: usize,
+    left: &Operand,
+    right: &Operand,
+) -> bool
     ensures { (p : Piece) → Stands nodes.now p n → result ≡ (operand_fits (piece_kinds decls.now p) left.now && operand_fits (piece_kinds decls.now p) right.now && kinds_fit (operand_kind (piece_kinds decls.now p) left.now) (operand_kind (piece_kinds decls.now p) right.now)) }
 {
     let a = operand_class(nodes, decls, n, left);
     let b = operand_class(nodes, decls, n, right);
-    operand_fits(nodes, decls, n, left)
-        && operand_fits(nodes, decls, n, right)
-        && classes_fit(a, b)
+    operand_fits(nodes, decls, n, left) && operand_fits(nodes, decls, n, right) && classes_fit(a, b)
 }
 
 #[cycle(condition_fits)]
@@ -169,7 +175,13 @@ fn pair_fits(nodes: &[Node], decls: &TableDecls, left: usize, right: usize, pair
 }
 
 /// Whether there are pairs, not too many, and each of them fits the two sides that stand at these numbers.
-pub fn pairs_fit(nodes: &[Node], decls: &TableDecls, left: usize, right: usize, pairs: &[Pair]) -> bool
+pub fn pairs_fit(
+    nodes: &[Node],
+    decls: &TableDecls,
+    left: usize,
+    right: usize,
+    pairs: &[Pair],
+) -> bool
     ensures { (p q : Piece) → Stands nodes.now p left → Stands nodes.now q right → (IsTrue result ↔ PairsFit (piece_kinds decls.now p) (piece_kinds decls.now q) pairs.now) }
 {
     if pairs.is_empty() || pairs.len() >= TOO_MANY {

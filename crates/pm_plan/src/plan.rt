@@ -52,13 +52,25 @@ pub type Aggregates = Items<Aggregate>;
 #[derive(Debug, Drop)]
 pub enum Node {
     /// Hands out the rows of a table.
-    Scan { table: u32, label: Label },
+    Scan {
+        table: u32,
+        label: Label,
+    },
     /// Hands out the rows of its child on which the condition is true.
-    Filter { child: u32, cond: Cond },
+    Filter {
+        child: u32,
+        cond: Cond,
+    },
     /// Hands out these columns of each row of its child.
-    Project { child: u32, columns: Columns },
+    Project {
+        child: u32,
+        columns: Columns,
+    },
     /// Hands out the rows of its child in this order, and equal ones as they came.
-    Sort { child: u32, keys: SortKeys },
+    Sort {
+        child: u32,
+        keys: SortKeys,
+    },
     /// Hands out a row for each different list of key values, with its aggregates, and one row where there are no keys.
     Group {
         child: u32,

@@ -66,7 +66,13 @@ fn items_fit(nodes: &[Node], decls: &TableDecls, n: usize, items: &[Aggregate]) 
 }
 
 // Whether a grouping of these rows is right.
-fn is_grouping(nodes: &[Node], decls: &TableDecls, n: usize, keys: &Columns, items: &Aggregates) -> bool
+fn is_grouping(
+    nodes: &[Node],
+    decls: &TableDecls,
+    n: usize,
+    keys: &Columns,
+    items: &Aggregates,
+) -> bool
     ensures { (t : Tree) → Heads nodes.now t n
         → (IsTrue result ↔ ((are_below (width decls.now t) keys.now ≡ true) × (list_all (item_fits (kinds_of decls.now t)) items.now ≡ true) × (has_group t ≡ true → items.now ≡ []))) }
 {
@@ -80,7 +86,14 @@ fn is_grouping(nodes: &[Node], decls: &TableDecls, n: usize, keys: &Columns, ite
 }
 
 // Whether the pairs fit the two sides that stand at these numbers, and the flags say how far these are unique on them.
-fn is_paired(nodes: &[Node], decls: &TableDecls, left: usize, right: usize, pairs: &[Pair], unique: Unique) -> bool
+fn is_paired(
+    nodes: &[Node],
+    decls: &TableDecls,
+    left: usize,
+    right: usize,
+    pairs: &[Pair],
+    unique: Unique,
+) -> bool
     ensures { (p q : Piece) → Stands nodes.now p left → Stands nodes.now q right → (IsTrue result ↔ IsPaired decls.now p q pairs.now unique) }
 {
     if !pairs_fit(nodes, decls, left, right, pairs) {
@@ -93,7 +106,14 @@ fn is_paired(nodes: &[Node], decls: &TableDecls, left: usize, right: usize, pair
 }
 
 // Whether a Hash or a Merge of the trees of these numbers is right, apart from their order.
-fn is_join(nodes: &[Node], decls: &TableDecls, left: usize, right: usize, pairs: &[Pair], unique: Unique) -> bool
+fn is_join(
+    nodes: &[Node],
+    decls: &TableDecls,
+    left: usize,
+    right: usize,
+    pairs: &[Pair],
+    unique: Unique,
+) -> bool
     ensures { (l r : Tree) → Heads nodes.now l left → Heads nodes.now r right → (IsTrue result ↔ IsJoin decls.now l r pairs.now unique.left unique.right) }
 {
     if !is_paired(nodes, decls, left, right, pairs, unique) {
@@ -110,7 +130,13 @@ fn is_right_seek(nodes: &[Node], decls: &TableDecls, left: usize, seek: usize) -
         return false;
     };
     match node {
-        Node::Seek { table, pairs, label, unique, .. } => {
+        Node::Seek {
+            table,
+            pairs,
+            label,
+            unique,
+            ..
+        } => {
             is_table(decls, *table, label)
                 && is_paired(nodes, decls, left, seek, pairs.as_slice(), *unique)
         }
@@ -133,10 +159,27 @@ fn is_operator(nodes: &[Node], decls: &TableDecls, n: usize) -> bool
         }
         Node::Sort { keys, .. } => keys_below(keys.as_slice(), width_at(nodes, decls, n + 1)),
         Node::Group { keys, items, .. } => is_grouping(nodes, decls, n + 1, keys, items),
-        Node::Hash { right, pairs, unique, .. } => {
-            is_join(nodes, decls, n + 1, behind(n, *right), pairs.as_slice(), *unique)
+        Node::Hash {
+            right,
+            pairs,
+            unique,
+            ..
+        } => {
+            is_join(
+                nodes,
+                decls,
+                n + 1,
+                behind(n, *right),
+                pairs.as_slice(),
+                *unique,
+            )
         }
-        Node::Merge { right, pairs, unique, .. } => {
+        Node::Merge {
+            right,
+            pairs,
+            unique,
+            ..
+        } => {
             let other = behind(n, *right);
             is_join(nodes, decls, n + 1, other, pairs.as_slice(), *unique)
                 && is_ordered(nodes, decls, n + 1, other, pairs.as_slice())

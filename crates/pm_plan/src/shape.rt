@@ -122,7 +122,13 @@ fn begins_with(order: &[u32], pairs: &[Pair], side: Side) -> bool
 }
 
 /// Whether the pairs are the first ORDER columns of the leftmost tables of two trees, in order.
-pub fn is_ordered(nodes: &[Node], decls: &TableDecls, left: usize, right: usize, pairs: &[Pair]) -> bool
+pub fn is_ordered(
+    nodes: &[Node],
+    decls: &TableDecls,
+    left: usize,
+    right: usize,
+    pairs: &[Pair],
+) -> bool
     ensures { (l r : Tree) → Heads nodes.now l left → Heads nodes.now r right → (IsTrue result ↔ IsOrdered decls.now l r pairs.now) }
 {
     let lefts = table_order(decls, leftmost_table(nodes, left));

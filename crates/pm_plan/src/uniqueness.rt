@@ -64,14 +64,25 @@ fn is_seek_unique(nodes: &[Node], decls: &TableDecls, n: usize) -> bool
         return false;
     };
     match node {
-        Node::Seek { table, pairs, .. } => is_key_among(decls, *table, pairs.as_slice(), Side::Right),
+        Node::Seek { table, pairs, .. } => is_key_among(
+            decls,
+            *table,
+            pairs.as_slice(),
+            Side::Right,
+        ),
         _ => false,
     }
 }
 
 /// Whether no two rows that the node of this number hands out agree in the columns of this side of the pairs and hold
 /// no NULL there, as far as the KEYs say.
-pub fn is_unique_at(nodes: &[Node], decls: &TableDecls, n: usize, pairs: &[Pair], side: Side) -> bool
+pub fn is_unique_at(
+    nodes: &[Node],
+    decls: &TableDecls,
+    n: usize,
+    pairs: &[Pair],
+    side: Side,
+) -> bool
     ensures { (p : Piece) (columns : List ℕ)
         → Stands nodes.now p n
         → AgreeBelow (piece_width decls.now p) columns (side_columns side pairs.now)
@@ -86,7 +97,16 @@ pub fn is_unique_at(nodes: &[Node], decls: &TableDecls, n: usize, pairs: &[Pair]
         }
         Node::Filter { .. } | Node::Sort { .. } => is_unique_at(nodes, decls, n + 1, pairs, side),
         Node::Project { .. } | Node::Group { .. } => false,
-        Node::Hash { right, pairs: own, .. } | Node::Merge { right, pairs: own, .. } => {
+        Node::Hash {
+            right,
+            pairs: own,
+            ..
+        }
+        | Node::Merge {
+            right,
+            pairs: own,
+            ..
+        } => {
             is_unique_at(nodes, decls, behind(n, *right), own.as_slice(), Side::Right)
                 && is_unique_at(nodes, decls, n + 1, pairs, side)
         }

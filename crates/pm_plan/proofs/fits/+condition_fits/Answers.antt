@@ -1,4 +1,4 @@
-use Rattle.std.proofs.Common.{◌≡◌, ap, sym, ◌∙◌}
+use Rattle.std.proofs.Common.{ap, sym, ◌∙◌}
 use Rattle.std.specs.List.{list_all}
 use Rattle.pm_plan.specs.Kinds.{condition_fits}
 use Rattle.pm_plan.specs.Standing.{piece_kinds}

@@ -1,10 +1,9 @@
-use Rattle.std.proofs.Common.{◌≡◌, ℕ, ◌+◌, ◌-◌, ◌<◌, ◌≤◌, List, ◌++◌, length, min, map, ap, sym, ◌∙◌, subst, arith, Option, None, Some, cond, unwrap_or, slice_get}
-use Rattle.std.specs.Option.{option_map}
+use Rattle.std.proofs.Common.{ap, sym, ◌∙◌, subst, arith, Some, slice_get}
 use Rattle.pm_plan.specs.declared.plan.Node.TheVariants as node
 use Rattle.pm_plan.specs.Preorder.{Whole}
 use Rattle.pm_plan.specs.Tree.{Project, Group}
-use Rattle.pm_plan.specs.Kinds.{kinds_of, table_kinds, kind_at, kind_of_item}
-use Rattle.pm_plan.specs.Standing.{Stands, piece_kinds, piece_width, origin_kind}
+use Rattle.pm_plan.specs.Kinds.{kinds_of, kind_at}
+use Rattle.pm_plan.specs.Standing.{Stands, piece_kinds, origin_kind}
 use Rattle.pm_plan.proofs.Inversion.{OverOne, begins, found_is}
 use Rattle.pm_plan.proofs.Lists.{chosen_none, chosen_some, got_or, slice_get-append_left, slice_get-append_right}
 use Rattle.pm_plan.proofs.Pieces.{none_stands, table_read, kept, sides}

@@ -1,9 +1,9 @@
-use Rattle.std.proofs.Common.{◌≡◌, ℕ, ◌+◌, length, min, map, ap, sym, ◌∙◌, subst, arith, length-append}
+use Rattle.std.proofs.Common.{length, min, map, ap, sym, ◌∙◌, subst, arith, length-append}
 use Rattle.std.proofs.lemmas.List.{length-map}
 use Rattle.pm_plan.specs.declared.plan.Node.TheVariants as node
 use Rattle.pm_plan.specs.Preorder.{Whole}
 use Rattle.pm_plan.specs.Tree.{Project, Group}
-use Rattle.pm_plan.specs.Kinds.{kinds_of, table_kinds, columns_of, kind_at, kind_of_item}
+use Rattle.pm_plan.specs.Kinds.{kinds_of, columns_of, kind_at, kind_of_item}
 use Rattle.pm_plan.specs.Standing.{Stands, piece_kinds, piece_width}
 use Rattle.pm_plan.proofs.Inversion.{OverOne, begins, found_is}
 use Rattle.pm_plan.proofs.Pieces.{none_stands, table_read, kept, sides}

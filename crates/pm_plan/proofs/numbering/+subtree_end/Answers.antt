@@ -1,4 +1,4 @@
-use Rattle.std.proofs.Common.{◌≡◌, ◌↔◌, sym, ap, ◌∙◌, subst, None, Some}
+use Rattle.std.proofs.Common.{sym, subst}
 use Rattle.pm_plan.proofs.Inversion.{found_is}
 use Rattle.pm_plan.specs.Standing.{IsEnd}
 use Rattle.pm_plan.proofs.Ends.{no_node, scan_end, no_seek_end, sole_none, sole_end, twin_none, twin_left, twin_right, twin_end, index_none, index_left, index_right, index_end}

@@ -1,8 +1,7 @@
-use Rattle.std.proofs.Common.{◌≡◌, ◌≤◌, arith, sym, ◌∙◌}
+use Rattle.std.proofs.Common.{arith}
 use Rattle.std.proofs.lemmas.Bool.Decides.{nat_tests}
 use Rattle.pm_plan.specs.Preorder.{Whole}
-use Rattle.pm_plan.specs.Kinds.{width}
-use Rattle.pm_plan.proofs.Rules.{fails, operators_are}
+use Rattle.pm_plan.proofs.Rules.{operators_are}
 use Rattle.pm_plan.proofs.right.+are_operators.Goals as goal
 
 pub are_operators-returns-then-width_at-lt-TOO_MANY : goal.are_operators-returns-then-width_at-lt-TOO_MANY

@@ -1,11 +1,10 @@
-use Rattle.std.proofs.Common.{◌≡◌, ◌<◌, ◌≤◌, ℕ, ◌↔◌, List, count_by, length, min, take, ap, sym, ◌∙◌, subst, arith}
+use Rattle.std.proofs.Common.{◌≡◌, ◌↔◌, List, count_by, length, take, ap, sym, ◌∙◌, subst, arith}
 use Rattle.std.specs.Prelude.{IsTrue}
 use Rattle.std.proofs.lemmas.List.{take_all}
 use Rattle.std.proofs.lemmas.Bool.{false≢true}
 use Rattle.pm_plan.specs.declared.plan.Node.{Node}
 use Rattle.pm_plan.specs.Preorder.{Whole, Heads, tree_of, IsNumbered}
 use Rattle.pm_plan.specs.Kinds.{kinds_of, width}
-use Rattle.pm_plan.specs.Right.{AreOperators, IsRight}
 use Rattle.pm_plan.specs.Fitting.{reads_table}
 use Rattle.pm_plan.proofs.Preorders.{Heads-tree_of}
 use Rattle.pm_plan.proofs.Rules.{fails, tables_of, right_of, width_small}

@@ -1,11 +1,10 @@
-use Rattle.std.proofs.Common.{◌≡◌, ◌≤◌, ℕ, Bool, true, false, not, length, [], List, min, arith, ap, sym, ◌∙◌}
-use Rattle.std.proofs.lemmas.Bool.{false≢true, not-true, not-false, not_from_false, false_from_ne_true}
+use Rattle.std.proofs.Common.{◌≡◌, length, arith, ap, sym, ◌∙◌}
+use Rattle.std.proofs.lemmas.Bool.{false≢true, not-true, not_from_false, false_from_ne_true}
 use Rattle.std.proofs.lemmas.Bool.Decides.{nat_tests}
 use Rattle.std.specs.List.{list_all}
-use Rattle.pm_plan.specs.Tree.{Tree}
-use Rattle.pm_plan.specs.Preorder.{Whole, Heads}
+use Rattle.pm_plan.specs.Preorder.{Whole}
 use Rattle.pm_plan.specs.Kinds.{kinds_of, width, item_fits}
-use Rattle.pm_plan.specs.Right.{are_below, has_group}
+use Rattle.pm_plan.specs.Right.{are_below}
 use Rattle.pm_plan.proofs.Rules.{fails, empty_list}
 use Rattle.pm_plan.proofs.right.is_grouping.Goals as goal
 

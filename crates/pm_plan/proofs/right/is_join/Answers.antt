@@ -1,4 +1,4 @@
-use Rattle.std.proofs.Common.{◌≡◌, sym, ◌∙◌}
+use Rattle.std.proofs.Common.{sym, ◌∙◌}
 use Rattle.std.proofs.lemmas.Bool.{false≢true}
 use Rattle.pm_plan.specs.Preorder.{Whole}
 use Rattle.pm_plan.proofs.Rules.{fails, join_is, paired_of}

@@ -1,17 +1,16 @@
-use Rattle.std.proofs.Common.{◌≡◌, ◌↔◌, ℕ, ◌+◌, ◌-◌, Bool, true, false, List, map, min, ap, sym, ◌∙◌, subst, slice_get, Some, arith}
-use Rattle.std.proofs.lemmas.Bool.{false≢true, not-true}
+use Rattle.std.proofs.Common.{◌≡◌, ◌+◌, ◌-◌, false, ap, sym, ◌∙◌, subst, slice_get, Some, arith}
+use Rattle.std.proofs.lemmas.Bool.{false≢true}
 use Rattle.std.proofs.lemmas.List.Folds.{list_all-map}
-use Rattle.std.specs.Prelude.{IsTrue, nat_lt}
+use Rattle.std.specs.Prelude.{nat_lt}
 use Rattle.std.specs.List.{list_all}
 use Rattle.pm_plan.specs.declared.plan.Node.TheVariants as node
-use Rattle.pm_plan.specs.Tree.{Tree, Filter, Project, Sort, Group, Hash, Merge, Index, size}
-use Rattle.pm_plan.specs.Preorder.{Whole, Part, Heads, seek_node}
-use Rattle.pm_plan.specs.Kinds.{kinds_of, width, condition_fits, condition_fits_if}
-use Rattle.pm_plan.specs.Right.{IsOperator, are_below}
+use Rattle.pm_plan.specs.Tree.{Filter, Project, Sort, Index, size}
+use Rattle.pm_plan.specs.Preorder.{Whole, seek_node}
+use Rattle.pm_plan.specs.Kinds.{width, condition_fits_if}
+use Rattle.pm_plan.specs.Right.{are_below}
 use Rattle.pm_plan.specs.Standing.{piece_kinds}
-use Rattle.pm_plan.specs.Fitting.{HasSeek}
-use Rattle.pm_plan.proofs.Inversion.{OverOne, OverTwo, OverSeek, begins, found_is}
-use Rattle.pm_plan.proofs.Rules.{fails, whole_is, root_is}
+use Rattle.pm_plan.proofs.Inversion.{OverOne, OverSeek, begins, found_is}
+use Rattle.pm_plan.proofs.Rules.{whole_is, root_is}
 use Rattle.pm_plan.proofs.right.is_operator.Goals as goal
 
 pub returns-in-Filter : goal.returns-in-Filter
@@ -35,7 +34,7 @@ returns-in-Sort c =
     let i : OverOne _ _ _ (λ u. Sort u c.in-Sort.keys) _ = begins c.args.nodes.now (Whole t) c.args.n (node.Sort _ _) (found_is c.in-Some.ensures.node c.in-Sort.is) h in
     let wide = width decls i.tree in
     let fit = c.keys_below.ensures wide (c.width_at-in-Sort.ensures.value (Whole i.tree) i.heads) ∙ ap (list_all (λ key. nat_lt key.column wide)) c.as_slice-in-Sort.ensures
-        ∙ sym (list_all-map (λ k. nat_lt k wide) (λ key. key.column) c.in-Sort.keys) in
+    ∙ sym (list_all-map (λ k. nat_lt k wide) (λ key. key.column) c.in-Sort.keys) in
     root_is decls t (Sort i.tree c.in-Sort.keys) c.keys_below.result (whole_is _ _ i.is) (λ yes. (sym fit ∙ yes, tt)) (λ is. fit ∙ is.0)
 
 pub returns-then-not-condition_fits_if : goal.returns-then-not-condition_fits_if

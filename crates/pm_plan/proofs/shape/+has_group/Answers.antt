@@ -1,9 +1,9 @@
 use Rattle.std.proofs.Common.{◌≡◌, ◌||◌, sym, ap, ◌∙◌, subst, true, false}
 use Rattle.pm_plan.specs.declared.plan.Node.TheVariants as node
 use Rattle.pm_plan.specs.Preorder.{Whole, Heads}
-use Rattle.pm_plan.specs.Tree.{Filter, Project, Sort, Group, Index}
+use Rattle.pm_plan.specs.Tree.{Group}
 use Rattle.pm_plan.specs.Right.{has_group}
-use Rattle.pm_plan.proofs.Inversion.{OverOne, OverSeek, begins, found_is}
+use Rattle.pm_plan.proofs.Inversion.{OverOne, begins, found_is}
 use Rattle.pm_plan.proofs.Pieces.{none_stands}
 use Rattle.pm_plan.proofs.Shapes.{groups, branches, groups_below}
 use Rattle.pm_plan.proofs.shape.+has_group.Goals as goal

@@ -1,6 +1,6 @@
-use Rattle.std.proofs.Common.{◌≡◌, sym, ap, ◌∙◌}
+use Rattle.std.proofs.Common.{sym, ap, ◌∙◌}
 use Rattle.pm_plan.specs.declared.plan.Node.TheVariants as node
-use Rattle.pm_plan.specs.Preorder.{Whole, Heads}
+use Rattle.pm_plan.specs.Preorder.{Whole}
 use Rattle.pm_plan.proofs.Inversion.{begins, found_is}
 use Rattle.pm_plan.proofs.Pieces.{none_stands}
 use Rattle.pm_plan.proofs.Shapes.{leftmost, first_below}

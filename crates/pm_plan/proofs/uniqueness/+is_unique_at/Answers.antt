@@ -1,10 +1,10 @@
-use Rattle.std.proofs.Common.{◌≡◌, ◌+◌, ◌-◌, ◌++◌, ◌&&◌, Bool, true, false, length, sym, ap, ◌∙◌, refl, subst, arith, length-append, slice_get, Some}
+use Rattle.std.proofs.Common.{◌≡◌, ◌+◌, ◌-◌, ◌&&◌, true, false, length, sym, ap, ◌∙◌, subst, arith, length-append, slice_get, Some}
 use Rattle.std.proofs.lemmas.List.{length-map}
 use Rattle.pm_plan.specs.Preorder.{Whole, Heads, seek_node}
 use Rattle.pm_plan.specs.Kinds.{kinds_of, table_kinds, columns_of, width}
 use Rattle.pm_plan.specs.Joins.{right_columns}
 use Rattle.pm_plan.specs.Unique.{left_part, unique_on}
-use Rattle.pm_plan.specs.Standing.{piece_kinds, piece_width, side_columns, AgreeBelow}
+use Rattle.pm_plan.specs.Standing.{side_columns, AgreeBelow}
 use Rattle.pm_plan.proofs.Pieces.{none_stands, table_read, kept}
 use Rattle.pm_plan.proofs.Agreement.{agree_left, joined, not_unique, sought_by}
 use Rattle.pm_plan.proofs.uniqueness.+is_unique_at.Goals as goal
