@@ -1,7 +1,7 @@
 -- what is said of the bounds at each operator: they enclose its rows, narrow, stay within the first bounds, and end exact
 use Rattle.std.specs.Prelude.{◌≡◌, ℕ, suc, ◌+◌, ◌≤◌, ◌≢◌, length}
 use Rattle.pm_plan.specs.Rows.{Db}
-use Rattle.pm_plan.specs.Tree.{Tree, Seek, Each, size}
+use Rattle.pm_plan.specs.Tree.{Tree, Each, size}
 use Rattle.pm_plan.specs.Outputs.{output, sought}
 use Rattle.pm_work.specs.Moments.{Counts, Gauges}
 use Rattle.pm_work.specs.First.{Sizes, first_hi, first_seek}

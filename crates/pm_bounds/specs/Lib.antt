@@ -2,3 +2,5 @@ pub mod Bounds
 pub mod Enclosure
 pub mod Capped
 pub mod Estimates
+pub mod Certified
+pub mod Worked

@@ -8,7 +8,7 @@ use Rattle.pm_plan.specs.Rows.{Row, Db}
 use Rattle.pm_plan.specs.Tree.{tree_of}
 use Rattle.pm_plan.specs.Outputs.{output, whole_work}
 use Rattle.pm_plan.specs.Events.{Event, events}
-use Rattle.pm_lines.specs.PlanLines.{plan_lines}
+use Rattle.pm_plan.specs.PlanLines.{plan_lines}
 use Rattle.pm_lines.specs.Rows.{head_line, row_line}
 use Rattle.pm_lines.specs.Progress.{progress_line, end_line}
 use Rattle.pm_cli.specs.Ticks.{last_event}

@@ -1,5 +1,4 @@
 pub mod Percent
-pub mod PlanLines
 pub mod Rows
 pub mod Progress
 pub mod Refusals

@@ -7,3 +7,4 @@ pub mod Agreement
 pub mod Conditions
 pub mod Shapes
 pub mod Rules
+pub mod PlanParts

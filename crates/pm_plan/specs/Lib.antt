@@ -10,4 +10,5 @@ pub mod Unique
 pub mod Standing
 pub mod Fitting
 pub mod Right
+pub mod PlanLines
 pub mod Worked

@@ -11,6 +11,7 @@ mod numbering;
 pub mod plan;
 pub mod right;
 mod shape;
+pub mod text;
 mod uniqueness;
 
 pub use gauge::{Bound, Gauge, Shown, Whole};
@@ -18,3 +19,4 @@ pub use plan::{
     Aggregate, Aggregates, Label, Node, Nodes, Pair, Pairs, Plan, SortKey, SortKeys, Unique,
 };
 pub use right::check_plan;
+pub use text::{node_text, plan_text};

@@ -1,6 +1,6 @@
 -- what stands at each operator after some events: its count, and what is settled by the counts below it
-use Rattle.std.specs.Prelude.{◌≡◌, ℕ, ◌+◌, List, [], ◌∷◌, length, take, filter, map}
-use Rattle.pm_values.specs.Row.{Row, pick}
+use Rattle.std.specs.Prelude.{◌≡◌, ℕ, ◌+◌, ◌-◌, List, [], ◌∷◌, ◌++◌, length, take, filter, get_or}
+use Rattle.pm_values.specs.Row.{Row}
 use Rattle.pm_values.specs.Condition.{keeps}
 use Rattle.pm_plan.specs.declared.gauge.Gauge.{Gauge}
 use Rattle.pm_plan.specs.Rows.{Db, table_rows}
@@ -74,3 +74,25 @@ Gauges = ℕ → Gauge
 abbrev pub HasGauges : Db → Tree → ℕ → Counts → Gauges → Type 0
 HasGauges db tree n K G =
     Each (λ t m. G m ≡ gauge_of db t m K) (λ left seek m. G (m + 1 + size left) ≡ seek_gauge db left seek m K) tree n
+
+-- the gauges of the tree's nodes in preorder
+abbrev pub gauges_of : Db → Tree → ℕ → Counts → List Gauge
+gauges_of db (Scan table label) n K = gauge_of db (Scan table label) n K ∷ []
+gauges_of db (Filter child cond) n K = gauge_of db (Filter child cond) n K ∷ gauges_of db child (n + 1) K
+gauges_of db (Project child columns) n K = gauge_of db (Project child columns) n K ∷ gauges_of db child (n + 1) K
+gauges_of db (Sort child keys) n K = gauge_of db (Sort child keys) n K ∷ gauges_of db child (n + 1) K
+gauges_of db (Group child keys items) n K = gauge_of db (Group child keys items) n K ∷ gauges_of db child (n + 1) K
+gauges_of db (Hash left right pairs unique) n K =
+    gauge_of db (Hash left right pairs unique) n K ∷ (gauges_of db left (n + 1) K ++ gauges_of db right (n + 1 + size left) K)
+gauges_of db (Merge left right pairs unique) n K =
+    gauge_of db (Merge left right pairs unique) n K ∷ (gauges_of db left (n + 1) K ++ gauges_of db right (n + 1 + size left) K)
+gauges_of db (Index left seek cond) n K =
+    gauge_of db (Index left seek cond) n K ∷ (gauges_of db left (n + 1) K ++ seek_gauge db left seek n K ∷ [])
+
+-- the gauge of node n in such a list, counted from 1, and zeros past its end
+abbrev pub gauge_in : List Gauge → Gauges
+gauge_in gauges n = get_or gauges (n - 1) (record { handed = 0; settled = 0; worst = 0; size = 0 })
+
+-- the gauges after the first t events
+abbrev pub gauges_at : Db → Tree → ℕ → List Gauge
+gauges_at db tree t = gauges_of db tree 1 (counts_at db tree t)

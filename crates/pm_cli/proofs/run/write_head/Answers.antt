@@ -2,7 +2,7 @@ use Rattle.std.proofs.Common.{subst}
 use Rattle.std.proofs.lemmas.Result.{on_err_weaker}
 use Rattle.pm_io.specs.Sink.{GainsPart}
 use Rattle.pm_io.proofs.Parts.{on_err, part_first, part_later}
-use Rattle.pm_lines.specs.PlanLines.{plan_lines}
+use Rattle.pm_plan.specs.PlanLines.{plan_lines}
 use Rattle.pm_lines.specs.Rows.{head_line}
 use Rattle.pm_cli.proofs.run.write_head.Goals as goal
 

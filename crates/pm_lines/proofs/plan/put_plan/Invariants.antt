@@ -1,6 +1,6 @@
 use Rattle.std.proofs.Common.{◌≡◌, ◌≤◌, take}
 use Rattle.pm_io.specs.Sink.{gained}
-use Rattle.pm_lines.specs.PlanLines.{plan_lines}
+use Rattle.pm_plan.specs.PlanLines.{plan_lines}
 use Rattle.pm_lines.proofs.plan.put_plan.Given as goal
 
 -- the lines so far were written

@@ -2,7 +2,7 @@
 use Rattle.std.proofs.Common.{◌≡◌, ℕ, suc, ◌+◌, ◌<◌, List, [], ◌∷◌, ◌++◌, length, take, drop, get_or, refl, sym, ap, ◌∙◌, append_assoc, arith}
 use Rattle.std.proofs.lemmas.List.{take-append-drop, append-nil, take_more, length-take-le}
 use Rattle.pm_plan.specs.declared.plan.Node.{Node}
-use Rattle.pm_lines.specs.PlanLines.{node_line, plan_lines}
+use Rattle.pm_plan.specs.PlanLines.{node_line, plan_lines}
 
 pub lines-append : (n : ℕ) (xs ys : List Node) → plan_lines n (xs ++ ys) ≡ plan_lines n xs ++ plan_lines (n + length xs) ys
 lines-append n [] ys = let same : n + 0 ≡ n = omega arith in rw same refl

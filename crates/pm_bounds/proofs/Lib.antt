@@ -1,0 +1,15 @@
+pub mod Groups
+pub mod Pairs
+pub mod Enclosed
+pub mod Sums
+pub mod Narrow
+pub mod First
+pub mod Exact
+pub mod Wholes
+pub mod Sound
+pub mod Caps
+pub mod Estimates
+pub mod BoundLists
+pub mod Moments
+pub mod Certain
+pub mod CapsHold

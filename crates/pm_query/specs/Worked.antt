@@ -1,0 +1,117 @@
+-- queries for worked examples
+use Rattle.std.specs.Prelude.{ℕ, true, false, List, [], ◌∷◌, Option, None, Some, codes}
+use Rattle.pm_values.specs.declared.condition.Comparison.TheVariants as comparison
+use Rattle.pm_values.specs.declared.condition.Operand.TheVariants as operand
+use Rattle.pm_values.specs.declared.condition.Cond.{Cond}
+use Rattle.pm_values.specs.declared.condition.Cond.TheVariants as cond
+use Rattle.pm_values.specs.Table.{Declaration}
+use Rattle.pm_plan.specs.declared.plan.Aggregate.TheVariants as aggregate
+use Rattle.pm_plan.specs.Rows.{Db}
+use Rattle.pm_work.specs.Worked.{against, number, declared, integer_column, text_column, over, order_decl, customer_decl, ordered_order_decl, ordered_customer_decl}
+use Rattle.pm_query.specs.declared.query.QueryTable.{QueryTable}
+use Rattle.pm_query.specs.declared.query.QuerySource.{QuerySource}
+use Rattle.pm_query.specs.declared.query.Conjunct.{Conjunct}
+use Rattle.pm_query.specs.declared.query.Query.{Query}
+
+abbrev pub table_at : ℕ → Declaration → QueryTable
+table_at place decl = record { place = place; decl = decl }
+
+abbrev pub source : ℕ → List ℕ → QuerySource
+source table alias = record { table = table; alias = alias }
+
+abbrev pub conjunct : Option ℕ → Cond → Conjunct
+conjunct on c = record { on = on; cond = c }
+
+abbrev pub equal : ℕ → ℕ → Cond
+equal x y = cond.Compare comparison.Equal (operand.Column x 0) (operand.Column y 0)
+
+-- SELECT c.name, o.amt FROM ord o JOIN cust c ON o.cust = c.id, and these further conditions
+abbrev pub orders_with_names : Declaration → Declaration → List Conjunct → Query
+orders_with_names orders customers further = record {
+  tables = table_at 1 orders ∷ table_at 0 customers ∷ [];
+  sources = source 0 (codes "o") ∷ source 1 (codes "c") ∷ [];
+  conjuncts = conjunct (Some 1) (equal 1 3) ∷ further;
+  grouped = false;
+  keys = [];
+  aggregates = [];
+  having = None;
+  outputs = 4 ∷ 2 ∷ [];
+  heads = codes "name" ∷ codes "amt" ∷ [];
+  orders = [];
+  distinct = false;
+}
+
+-- WHERE o.amt > 5
+abbrev pub large_orders : Declaration → Declaration → Query
+large_orders orders customers = orders_with_names orders customers (conjunct None (against comparison.Greater 2 5) ∷ [])
+
+-- of one table, named as it is declared, without conditions
+abbrev pub of_table : Declaration → List ℕ → Query
+of_table decl outputs = record {
+  tables = table_at 0 decl ∷ [];
+  sources = source 0 decl.name ∷ [];
+  conjuncts = [];
+  grouped = false;
+  keys = [];
+  aggregates = [];
+  having = None;
+  outputs = outputs;
+  heads = [];
+  orders = [];
+  distinct = false;
+}
+
+abbrev pub group_decl : Declaration
+group_decl = declared (codes "g") (integer_column (codes "id") ∷ text_column (codes "k") ∷ record (integer_column (codes "v")) { nullable = true } ∷ []) (Some (0 ∷ [])) None
+
+-- SELECT k, COUNT(*), COUNT(v), SUM(v) FROM g GROUP BY k HAVING SUM(v) > 1
+abbrev pub sums_by_key : Query
+sums_by_key =
+    record (of_table group_decl (0 ∷ 1 ∷ 2 ∷ 3 ∷ [])) {
+      grouped = true;
+      keys = 1 ∷ [];
+      aggregates = aggregate.CountAll ∷ aggregate.Count 2 ∷ aggregate.Sum 2 ∷ [];
+      having = Some (against comparison.Greater 3 1);
+    }
+
+-- SELECT DISTINCT k FROM g ORDER BY k DESC
+abbrev pub different_keys : Query
+different_keys = record (of_table group_decl (1 ∷ [])) { distinct = true; orders = record { column = 1; descending = true } ∷ [] }
+
+-- SELECT cust, SUM(amt) AS t FROM ord GROUP BY cust ORDER BY t DESC, cust
+abbrev pub sums_by_customer : Query
+sums_by_customer =
+    record (of_table order_decl (0 ∷ 1 ∷ [])) {
+      grouped = true;
+      keys = 1 ∷ [];
+      aggregates = aggregate.Sum 2 ∷ [];
+      orders = record { column = 1; descending = true } ∷ record { column = 0; descending = false } ∷ [];
+    }
+
+-- SELECT COUNT(*) FROM ord
+abbrev pub order_count : Query
+order_count = record (of_table order_decl (0 ∷ [])) { grouped = true; aggregates = aggregate.CountAll ∷ [] }
+
+-- SELECT b.id FROM one a JOIN big b ON a.x = b.id
+abbrev pub few_in_many : Query
+few_in_many =
+    record (of_table (declared (codes "one") (integer_column (codes "x") ∷ []) None None) (1 ∷ [])) {
+      tables =
+          table_at 0 (declared (codes "one") (integer_column (codes "x") ∷ []) None None)
+          ∷ table_at 1 (declared (codes "big") (integer_column (codes "id") ∷ []) (Some (0 ∷ [])) None)
+          ∷ [];
+      sources = source 0 (codes "a") ∷ source 1 (codes "b") ∷ [];
+      conjuncts = conjunct (Some 1) (equal 0 1) ∷ [];
+    }
+
+-- items and their prices by day, joined on the item alone, which is a part of the KEY
+abbrev pub priced_items : Query
+priced_items =
+    record (of_table (declared (codes "item") (integer_column (codes "id") ∷ []) (Some (0 ∷ [])) None) (0 ∷ 3 ∷ [])) {
+      tables =
+          table_at 0 (declared (codes "item") (integer_column (codes "id") ∷ []) (Some (0 ∷ [])) None)
+          ∷ table_at 1 (declared (codes "price") (integer_column (codes "item") ∷ integer_column (codes "day") ∷ integer_column (codes "p") ∷ []) (Some (0 ∷ 1 ∷ [])) None)
+          ∷ [];
+      sources = source 0 (codes "i") ∷ source 1 (codes "p") ∷ [];
+      conjuncts = conjunct (Some 1) (equal 0 1) ∷ [];
+    }

@@ -1,0 +1,73 @@
+//! Worked examples of the definitions, each the contract of a function that does nothing: they are proved by computing.
+ghost use Rattle.std.specs.Prelude.{◌≡◌, [], ◌∷◌, codes};
+ghost use Rattle.pm_values.specs.declared.value.Value.TheVariants.{Null, Text};
+ghost use Rattle.pm_plan.specs.Outputs.{output};
+ghost use Rattle.pm_work.specs.Events.{trace};
+ghost use Rattle.pm_work.specs.Work.{whole_work, scanned_rows};
+ghost use Rattle.pm_work.specs.Worked.{number, shop, ordered_shop, no_orders, customers_alone, orders_alone, few_and_many, keyless, groups, hashed, sought_rows, sought_all, merged_rows, merged_few, counted, order_ids, customers_from_two, summed, looked_up, keyless_join, grouped_rows, grouped_few, distinct_rows, paired_rows};
+
+/// A hash join reads its right side first, and then hands out its matches right after each row of its left side.
+pub fn hash_join_worked()
+    ensures trace { trace shop hashed ≡ 5 ∷ 5 ∷ 5 ∷ 4 ∷ 4 ∷ 3 ∷ 2 ∷ 1 ∷ 4 ∷ 3 ∷ 2 ∷ 1 ∷ 4 ∷ [] }
+    ensures work { whole_work shop hashed ≡ 13 }
+    ensures scanned { scanned_rows shop hashed ≡ 7 }
+    ensures rows { output shop hashed ≡ (Text (codes "Ann") ∷ number 7 ∷ []) ∷ (Text (codes "Cy") ∷ number 9 ∷ []) ∷ [] }
+    ensures keyless { trace keyless keyless_join ≡ 4 ∷ 4 ∷ 4 ∷ 3 ∷ 2 ∷ 1 ∷ 2 ∷ 1 ∷ 3 ∷ 3 ∷ 2 ∷ 1 ∷ 2 ∷ 1 ∷ [] }
+    ensures keyless_work { whole_work keyless keyless_join ≡ 14 }
+{}
+
+/// An index join looks up the matches of each left row; its Seek hands out a table's row once for each left row.
+pub fn index_join_worked()
+    ensures trace { trace shop sought_rows ≡ 4 ∷ 4 ∷ 3 ∷ 5 ∷ 2 ∷ 1 ∷ 4 ∷ 3 ∷ 5 ∷ 2 ∷ 1 ∷ 4 ∷ [] }
+    ensures work { whole_work shop sought_rows ≡ 12 }
+    ensures same_rows { output shop sought_rows ≡ output shop hashed }
+    ensures twice { trace shop sought_all ≡ 3 ∷ 4 ∷ 2 ∷ 1 ∷ 3 ∷ 4 ∷ 2 ∷ 1 ∷ 3 ∷ 4 ∷ 2 ∷ 1 ∷ 3 ∷ [] }
+    ensures twice_work { whole_work shop sought_all ≡ 13 }
+    ensures twice_rows { output shop sought_all ≡ (Text (codes "Ann") ∷ number 5 ∷ []) ∷ (Text (codes "Ann") ∷ number 7 ∷ []) ∷ (Text (codes "Cy") ∷ number 9 ∷ []) ∷ [] }
+    ensures once { trace (few_and_many ((number 1 ∷ []) ∷ (number 2 ∷ []) ∷ (number 3 ∷ []) ∷ (number 4 ∷ []) ∷ [])) looked_up ≡ 3 ∷ 4 ∷ 2 ∷ 1 ∷ 3 ∷ [] }
+{}
+
+/// A merge join reads its right side up to the first greater key, and what is left of it at the end.
+pub fn merge_join_worked()
+    ensures trace { trace ordered_shop merged_rows ≡ 4 ∷ 4 ∷ 3 ∷ 5 ∷ 5 ∷ 2 ∷ 1 ∷ 4 ∷ 3 ∷ 5 ∷ 2 ∷ 1 ∷ 4 ∷ [] }
+    ensures work { whole_work ordered_shop merged_rows ≡ 13 }
+    ensures same_rows { output ordered_shop merged_rows ≡ output shop hashed }
+    ensures read_on { trace ordered_shop merged_few ≡ 4 ∷ 4 ∷ 3 ∷ 5 ∷ 5 ∷ 2 ∷ 1 ∷ 4 ∷ 4 ∷ 5 ∷ [] }
+    ensures read_on_work { whole_work ordered_shop merged_few ≡ 10 }
+{}
+
+/// A filter hands out a row in the event after its child's, or not at all.
+pub fn filter_worked()
+    ensures trace { trace customers_alone customers_from_two ≡ 3 ∷ 3 ∷ 2 ∷ 1 ∷ 3 ∷ 2 ∷ 1 ∷ [] }
+    ensures work { whole_work customers_alone customers_from_two ≡ 7 }
+    ensures rows { output customers_alone customers_from_two ≡ (Text (codes "Bob") ∷ []) ∷ (Text (codes "Cy") ∷ []) ∷ [] }
+{}
+
+/// A grouping without keys hands out one row, over no rows too. With no rows and no grouping there is no event.
+pub fn no_rows_worked()
+    ensures counted { trace no_orders counted ≡ 2 ∷ 1 ∷ [] }
+    ensures counted_work { whole_work no_orders counted ≡ 2 }
+    ensures none { output no_orders counted ≡ (number 0 ∷ []) ∷ [] }
+    ensures scanned { scanned_rows no_orders counted ≡ 0 }
+    ensures empty { trace no_orders order_ids ≡ [] }
+    ensures empty_work { whole_work no_orders order_ids ≡ 0 }
+{}
+
+/// NULLs are one group, a sum skips them, and in a join they match nothing.
+pub fn groups_worked()
+    ensures rows { output groups grouped_rows ≡ (Text (codes "b") ∷ number 2 ∷ number 2 ∷ number 6 ∷ []) ∷ (Null ∷ number 2 ∷ number 0 ∷ Null ∷ []) ∷ (Text (codes "a") ∷ number 1 ∷ number 1 ∷ number 2 ∷ []) ∷ [] }
+    ensures trace { trace groups grouped_rows ≡ 3 ∷ 3 ∷ 3 ∷ 3 ∷ 3 ∷ 2 ∷ 1 ∷ 2 ∷ 1 ∷ 2 ∷ 1 ∷ [] }
+    ensures work { whole_work groups grouped_rows ≡ 11 }
+    ensures having { output groups grouped_few ≡ (Text (codes "b") ∷ number 2 ∷ number 2 ∷ number 6 ∷ []) ∷ (Text (codes "a") ∷ number 1 ∷ number 1 ∷ number 2 ∷ []) ∷ [] }
+    ensures distinct { output groups distinct_rows ≡ (Text (codes "b") ∷ []) ∷ (Text (codes "a") ∷ []) ∷ (Null ∷ []) ∷ [] }
+    ensures distinct_trace { trace groups distinct_rows ≡ 4 ∷ 3 ∷ 4 ∷ 3 ∷ 4 ∷ 3 ∷ 4 ∷ 3 ∷ 4 ∷ 3 ∷ 2 ∷ 2 ∷ 2 ∷ 1 ∷ 1 ∷ 1 ∷ [] }
+    ensures distinct_work { whole_work groups distinct_rows ≡ 16 }
+    ensures paired { output groups paired_rows ≡ (number 1 ∷ []) ∷ (number 1 ∷ []) ∷ (number 3 ∷ []) ∷ (number 5 ∷ []) ∷ (number 5 ∷ []) ∷ [] }
+{}
+
+/// A sort hands out its rows once all have come: by the first key, and by the second where that is equal.
+pub fn sort_worked()
+    ensures rows { output orders_alone summed ≡ (number 1 ∷ number 12 ∷ []) ∷ (number 3 ∷ number 9 ∷ []) ∷ (number 9 ∷ number 1 ∷ []) ∷ [] }
+    ensures trace { trace orders_alone summed ≡ 4 ∷ 4 ∷ 4 ∷ 4 ∷ 3 ∷ 3 ∷ 3 ∷ 2 ∷ 1 ∷ 2 ∷ 1 ∷ 2 ∷ 1 ∷ [] }
+    ensures work { whole_work orders_alone summed ≡ 13 }
+{}
