@@ -1,5 +1,5 @@
 -- the rows that an operator hands out in all
-use Rattle.std.specs.Prelude.{ℕ, Bool, true, List, ◌++◌, map, filter, Option, None, Some}
+use Rattle.std.specs.Prelude.{Bool, true, List, map, filter, Option, None, Some}
 use Rattle.std.specs.List.{flat_map}
 use Rattle.pm_values.specs.declared.condition.Cond.{Cond}
 use Rattle.pm_values.specs.Row.{Row, pick}

@@ -1,11 +1,10 @@
 -- when the declarations say that no two rows of a tree agree in columns and hold no NULL there
-use Rattle.std.specs.Prelude.{ℕ, Bool, false, ◌&&◌, nat_eq, nat_lt, List, map, filter, slice_get, Option, None, Some}
+use Rattle.std.specs.Prelude.{ℕ, Bool, false, ◌&&◌, nat_eq, nat_lt, List, filter, slice_get, Option, None, Some}
 use Rattle.std.specs.List.{list_any, list_all}
 use Rattle.pm_values.specs.Table.{Declaration}
-use Rattle.pm_plan.specs.declared.plan.Unique.{Unique}
-use Rattle.pm_plan.specs.Joins.{left_columns, right_columns}
+use Rattle.pm_plan.specs.Joins.{right_columns}
 use Rattle.pm_plan.specs.Kinds.{width}
-use Rattle.pm_plan.specs.Tree.{Tree, Scan, Filter, Project, Sort, Group, Hash, Merge, Index, Seek}
+use Rattle.pm_plan.specs.Tree.{Tree, Scan, Filter, Project, Sort, Group, Hash, Merge, Index}
 
 -- the KEY is there, and each of its columns is among these
 abbrev pub key_within : List ℕ → Option (List ℕ) → Bool

@@ -3,13 +3,20 @@
 //! `check_plan` says whether a plan is right for the tables that are declared.
 #![tactic(auto)]
 
+mod fits;
 pub mod gauge;
+mod kinds;
 pub mod laws;
+mod numbering;
 pub mod plan;
+pub mod right;
+mod shape;
 pub mod text;
+mod uniqueness;
 
 pub use gauge::{Bound, Gauge, Shown, Whole};
 pub use plan::{
     Aggregate, Aggregates, Label, Node, Nodes, Pair, Pairs, Plan, SortKey, SortKeys, Unique,
 };
+pub use right::check_plan;
 pub use text::{node_text, plan_text};
