@@ -6,8 +6,7 @@ use Rattle.pm_values.specs.declared.condition.Cond.{Cond}
 use Rattle.pm_values.specs.declared.condition.Cond.TheVariants as cond
 use Rattle.pm_values.specs.Table.{Declaration}
 use Rattle.pm_plan.specs.declared.plan.Aggregate.TheVariants as aggregate
-use Rattle.pm_plan.specs.Rows.{Db}
-use Rattle.pm_work.specs.Worked.{against, number, declared, integer_column, text_column, over, order_decl, customer_decl, ordered_order_decl, ordered_customer_decl}
+use Rattle.pm_work.specs.Worked.{against, declared, integer_column, text_column, order_decl}
 use Rattle.pm_query.specs.declared.query.QueryTable.{QueryTable}
 use Rattle.pm_query.specs.declared.query.QuerySource.{QuerySource}
 use Rattle.pm_query.specs.declared.query.Conjunct.{Conjunct}
