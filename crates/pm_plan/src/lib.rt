@@ -4,6 +4,7 @@
 #![tactic(auto)]
 
 pub mod gauge;
+pub mod laws;
 pub mod plan;
 pub mod text;
 

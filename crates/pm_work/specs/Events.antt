@@ -9,7 +9,7 @@ use Rattle.pm_plan.specs.Rows.{Db, table_rows}
 use Rattle.pm_plan.specs.Joins.{matches, joined_rows, is_greater}
 use Rattle.pm_plan.specs.Sorting.{sorted}
 use Rattle.pm_plan.specs.Grouping.{grouped}
-use Rattle.pm_plan.specs.Tree.{Tree, Scan, Filter, Project, Sort, Group, Hash, Merge, Index, Seek, size}
+use Rattle.pm_plan.specs.Tree.{Tree, Scan, Filter, Project, Sort, Group, Hash, Merge, Index, size}
 use Rattle.pm_plan.specs.Outputs.{output, keeps_if}
 
 pub record Event : Type 0 where

@@ -7,7 +7,7 @@ use Rattle.pm_plan.specs.declared.plan.Pair.{Pair}
 use Rattle.pm_plan.specs.declared.plan.Unique.{Unique}
 use Rattle.pm_plan.specs.Rows.{Db, table_rows}
 use Rattle.pm_plan.specs.Joins.{left_columns, right_columns, multiplicity}
-use Rattle.pm_plan.specs.Tree.{Tree, Scan, Filter, Project, Sort, Group, Hash, Merge, Index, Seek, Each}
+use Rattle.pm_plan.specs.Tree.{Tree, Hash, Merge, Each}
 use Rattle.pm_plan.specs.Outputs.{output}
 
 -- no two rows agree in these columns and hold no NULL there

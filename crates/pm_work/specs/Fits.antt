@@ -1,12 +1,12 @@
 -- the plans that are run over a database
-use Rattle.std.specs.Prelude.{◌≡◌, ◌≤◌, ◌^◌, ℕ, Bool, true, false, List, map, length, All}
+use Rattle.std.specs.Prelude.{◌≡◌, ◌≤◌, ◌^◌, Bool, true, false, List, map, length, All}
 use Rattle.std.specs.List.{list_any}
 use Rattle.pm_values.specs.Table.{Declaration, IsRelation}
 use Rattle.pm_plan.specs.declared.plan.Plan.{Plan}
 use Rattle.pm_plan.specs.declared.plan.Aggregate.{Aggregate}
 use Rattle.pm_plan.specs.declared.plan.Aggregate.TheVariants as aggregate
 use Rattle.pm_plan.specs.Rows.{Db}
-use Rattle.pm_plan.specs.Tree.{Tree, Scan, Filter, Project, Sort, Group, Hash, Merge, Index, Each}
+use Rattle.pm_plan.specs.Tree.{Tree, Group, Each}
 use Rattle.pm_plan.specs.Preorder.{tree_of}
 use Rattle.pm_plan.specs.Right.{AreOperators, IsRight}
 use Rattle.pm_work.specs.First.{Sizes, first_hi, first_bound}

@@ -1,7 +1,7 @@
 -- the counts that can stand at one moment of a run
 use Rattle.std.specs.Prelude.{◌≡◌, ℕ, ◌+◌, ◌<◌, ◌≤◌, length}
-use Rattle.pm_plan.specs.Rows.{Db, table_rows}
-use Rattle.pm_plan.specs.Tree.{Tree, Scan, Filter, Project, Sort, Group, Hash, Merge, Index, Seek, size}
+use Rattle.pm_plan.specs.Rows.{Db}
+use Rattle.pm_plan.specs.Tree.{Tree, Scan, Filter, Project, Sort, Group, Hash, Merge, Index, size}
 use Rattle.pm_plan.specs.Outputs.{output, sought}
 use Rattle.pm_work.specs.Moments.{Counts, settled, seek_settled}
 

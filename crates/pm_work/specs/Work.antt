@@ -1,7 +1,7 @@
 -- the whole work: the rows that all operators hand out (the getnext model of work)
-use Rattle.std.specs.Prelude.{ℕ, List, length}
+use Rattle.std.specs.Prelude.{ℕ, length}
 use Rattle.pm_plan.specs.Rows.{Db, table_rows}
-use Rattle.pm_plan.specs.Tree.{Tree, Scan, Filter, Project, Sort, Group, Hash, Merge, Index, Seek, total}
+use Rattle.pm_plan.specs.Tree.{Tree, Scan, total}
 use Rattle.pm_plan.specs.Outputs.{output, sought}
 
 abbrev pub whole_work : Db → Tree → ℕ
