@@ -8,10 +8,10 @@ use Rattle.pm_fraction.proofs.Roots.{root-is}
 use Rattle.pm_plan.specs.declared.gauge.Shown.{Shown}
 use Rattle.pm_plan.specs.declared.plan.Plan.{Plan}
 use Rattle.pm_plan.specs.Rows.{Db}
-use Rattle.pm_plan.specs.Tree.{tree_of}
-use Rattle.pm_plan.specs.Outputs.{whole_work, scanned_rows}
-use Rattle.pm_plan.specs.Fits.{Fits}
-use Rattle.pm_plan.proofs.Answers.{rows-answer}
+use Rattle.pm_plan.specs.Preorder.{tree_of}
+use Rattle.pm_work.specs.Work.{whole_work, scanned_rows}
+use Rattle.pm_cli.specs.TablePlan.{IsTablePlan}
+use Rattle.pm_cli.proofs.TableRows.{rows-answer}
 use Rattle.pm_cli.specs.Estimates.{safe_root, shown_at}
 use Rattle.pm_cli.specs.Certified.{IsCertified, AreCertified}
 use Rattle.pm_cli.proofs.UnderPlan.{IsMoment, at_moment}
@@ -44,7 +44,7 @@ of-event w scanned s safe lo hi begun within scans =
       percent_whole = up-whole s.work s.lo (omega arith) (omega arith);
     }
 
-pub certified : (plan : Plan) (db : Db) → Fits plan db → All IsRelation db → AreCertified plan db
+pub certified : (plan : Plan) (db : Db) → IsTablePlan plan db → All IsRelation db → AreCertified plan db
 certified plan db fits declared =
     let tree = tree_of plan.nodes in
     let w = whole_work db tree in

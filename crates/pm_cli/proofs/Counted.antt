@@ -6,11 +6,12 @@ use Rattle.std.proofs.lemmas.Bool.Decides.{eqb_tells}
 use Rattle.std.proofs.lemmas.Option.{slice_get_read}
 use Rattle.pm_plan.specs.declared.gauge.Gauge.{Gauge}
 use Rattle.pm_plan.specs.Rows.{Db, table_rows}
-use Rattle.pm_plan.specs.Tree.{Tree, Scan, Project, size, nodes_of}
-use Rattle.pm_plan.specs.Events.{Event, events, rows_at, counts}
-use Rattle.pm_plan.specs.Moments.{Counts, gauge_of, gauges_of, gauges_at, counts_at}
-use Rattle.pm_plan.proofs.EventLists.{Within, rows_at-append}
-use Rattle.pm_plan.proofs.EventLaws.{Within-events}
+use Rattle.pm_plan.specs.Tree.{Tree, Scan, Project, size}
+use Rattle.pm_plan.specs.Preorder.{nodes_of}
+use Rattle.pm_work.specs.Events.{Event, events, rows_at, counts}
+use Rattle.pm_work.specs.Moments.{Counts, gauge_of, gauges_of, gauges_at, counts_at}
+use Rattle.pm_work.proofs.EventLists.{Within, rows_at-append}
+use Rattle.pm_work.proofs.EventLaws.{Within-events}
 use Rattle.pm_cli.specs.Gauges.{gauge_before}
 use Rattle.pm_cli.proofs.Drops.{take-next}
 

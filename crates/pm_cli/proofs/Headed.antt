@@ -6,11 +6,13 @@ use Rattle.pm_plan.specs.declared.plan.Label.{Label}
 use Rattle.pm_plan.specs.declared.plan.Plan.{Plan}
 use Rattle.pm_plan.specs.declared.plan.Node.{Node}
 use Rattle.pm_plan.specs.declared.plan.Node.TheVariants as node
-use Rattle.pm_plan.specs.Rows.{Db, table_rows, pick}
-use Rattle.pm_plan.specs.Tree.{Tree, Scan, Project, Heads, IsNumbered, tree_of}
-use Rattle.pm_plan.specs.Events.{Event, events, after, handed}
-use Rattle.pm_plan.specs.Fits.{Fits, below, tree_over}
-use Rattle.pm_plan.proofs.EventLaws.{length-events}
+use Rattle.pm_values.specs.Row.{pick}
+use Rattle.pm_plan.specs.Rows.{Db, table_rows}
+use Rattle.pm_plan.specs.Tree.{Tree, Scan, Project}
+use Rattle.pm_plan.specs.Preorder.{Heads, IsNumbered, tree_of}
+use Rattle.pm_work.specs.Events.{Event, events, after, handed}
+use Rattle.pm_cli.specs.TablePlan.{IsTablePlan, below, tree_over}
+use Rattle.pm_work.proofs.EventLaws.{length-events}
 use Rattle.pm_cli.specs.Left.{InPlan, IsScan, table_of, columns_of}
 use Rattle.pm_cli.specs.Fresh.{HasTables, HeadsTree, AreAll}
 
@@ -65,7 +67,7 @@ pub record Headed (plan : Plan) (db : Db) : Type 0 where
   pub one : 0 < length db
   pub work : length (events db (tree_of plan.nodes) 1) ≡ 2 * length (table_rows db 0)
 
-pub headed : (plan : Plan) (db : Db) → Fits plan db → Headed plan db
+pub headed : (plan : Plan) (db : Db) → IsTablePlan plan db → Headed plan db
 headed plan [] fits = absurd fits
 headed plan (table ∷ []) fits =
     let child : (1 ≤ 2) × (2 ≤ 2) × (2 < 2 ^ 32) = (omega arith, omega arith, omega arith) in

@@ -1,6 +1,8 @@
 pub mod BoundLists
 pub mod PipeLists
+pub mod Sums
 pub mod Drops
+pub mod TableRows
 pub mod Headed
 pub mod Counted
 pub mod Steps

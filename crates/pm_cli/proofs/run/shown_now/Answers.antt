@@ -1,5 +1,5 @@
 use Rattle.std.proofs.Common.{◌≡◌, length, subst, sym, ap, ◌∙◌}
-use Rattle.pm_plan.specs.Tree.{tree_of, IsNumbered}
+use Rattle.pm_plan.specs.Preorder.{tree_of, IsNumbered}
 use Rattle.pm_cli.specs.Sums.{SumsFit}
 use Rattle.pm_cli.specs.Estimates.{shown_of, shown_at}
 use Rattle.pm_cli.proofs.UnderPlan.{IsMoment, at_moment}
