@@ -6,6 +6,7 @@ use Rattle.pm_plan.specs.Rows.{Db}
 use Rattle.pm_plan.specs.Tree.{Tree, Scan, Filter, Project, Sort, Group, Hash, Merge, Index, Seek, size, total}
 use Rattle.pm_work.specs.Formulas.{group_lo, group_hi, pairs_hi, hash_hi, seek_hi}
 use Rattle.pm_work.specs.Moments.{Gauges, gauge_in, gauges_at}
+use Rattle.pm_work.specs.First.{Sizes, first_hi, first_seek}
 
 -- the lower bound of the tree's root, which is node n
 abbrev pub lo : Tree → ℕ → Gauges → ℕ
@@ -59,6 +60,10 @@ lo_whole tree G = total (λ t n. lo t n G) (λ left seek n. lo_of_seek left seek
 
 abbrev pub hi_whole : Tree → Gauges → ℕ
 hi_whole tree G = total (λ t n. hi t n G) (λ left seek n. hi_of_seek left seek n G) tree 1
+
+-- before any event, from the sizes of the tables
+abbrev pub first_whole : Sizes → Tree → ℕ
+first_whole sizes tree = total (λ t n. first_hi sizes t) (λ left seek n. first_seek sizes seek (first_hi sizes left)) tree 1
 
 -- after the first t events of a tree over a database
 abbrev pub whole_at : Db → Tree → ℕ → Whole

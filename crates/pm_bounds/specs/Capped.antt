@@ -43,6 +43,10 @@ hi_capped top (Index left seek cond) n G =
     min top ((G n).settled
     + (seek_above_capped top seek (n + 1 + size left) (hi_capped top left (n + 1) G - (G (n + 1)).handed) G - (G (n + 1 + size left)).handed))
 
+-- of the Seek of Index n
+abbrev pub hi_of_seek_capped : ℕ → Tree → Seek → ℕ → Gauges → ℕ
+hi_of_seek_capped top left seek n G = seek_above_capped top seek (n + 1 + size left) (hi_capped top left (n + 1) G - (G (n + 1)).handed) G
+
 -- no upper bound is above this number
 abbrev pub AllUpTo : ℕ → Tree → ℕ → Gauges → Type 0
 AllUpTo top tree n G = Each (λ t m. hi t m G ≤ top) (λ left seek m. hi_of_seek left seek m G ≤ top) tree n

@@ -1,2 +1,2 @@
-pub mod PlanParts
 pub mod Preorders
+pub mod PlanParts

@@ -10,7 +10,6 @@ use Rattle.pm_values.specs.declared.condition.Cond.TheVariants as cond
 use Rattle.pm_values.specs.declared.condition.Cond.TheOpen.{Cond-F}
 use Rattle.pm_values.specs.declared.condition.Cond.TheOpen as layer
 use Rattle.pm_values.specs.declared.condition.Cond.TheFolds.{fold-roll-Cond, every_here-Cond, every_held-Cond, every_made-Cond, map-Cond}
-use Rattle.pm_values.specs.declared.condition.Cond.TheViews.{out-Cond, roll-Cond}
 
 pub fold_all : {A : Type 0} (step : Cond-F A → A) (members : List Cond) → fold-Cond A step (cond.All members) ≡ step (layer.All (map (fold-Cond A step) members))
 fold_all {A} step members = ap (fold-Cond A step) (sym (cond.rolls-All members)) ∙ fold-roll-Cond A step (layer.All members)

@@ -1,4 +1,5 @@
-//! Values, rows and tables of a database, and the small list and text types that every other crate shares.
+//! Values, rows, conditions on rows and tables of a database, and the small list and text types that every other
+//! crate shares.
 //!
 //! A contract sees a list type as the list of its items, a text as its bytes, and a table as its declaration
 //! and its rows. A table keeps in its type that its rows are what its declaration says.
@@ -6,6 +7,7 @@
 
 pub mod cells;
 pub mod condition;
+mod eval;
 pub mod gate;
 pub mod items;
 pub mod key;
@@ -26,4 +28,4 @@ pub use order::compare;
 pub use print::value_text;
 pub use table::{ColumnDecl, ColumnDecls, Db, Table, TableDecl, TableDecls};
 pub use text::Txt;
-pub use value::{Kind, Kinds, Row, Rows, Value};
+pub use value::{Kind, Kinds, Row, Rows, Value, copy_row};

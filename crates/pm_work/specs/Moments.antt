@@ -1,6 +1,6 @@
 -- what stands at each operator after some events: its count, and what is settled by the counts below it
 use Rattle.std.specs.Prelude.{◌≡◌, ℕ, ◌+◌, ◌-◌, List, [], ◌∷◌, ◌++◌, length, take, filter, map, get_or}
-use Rattle.pm_values.specs.Row.{Row, pick}
+use Rattle.pm_values.specs.Row.{Row}
 use Rattle.pm_values.specs.Condition.{keeps}
 use Rattle.pm_plan.specs.declared.gauge.Gauge.{Gauge}
 use Rattle.pm_plan.specs.Rows.{Db, table_rows}

@@ -1,0 +1,11 @@
+pub mod Groups
+pub mod Pairs
+pub mod Enclosed
+pub mod Sums
+pub mod Narrow
+pub mod First
+pub mod Exact
+pub mod Wholes
+pub mod Sound
+pub mod Caps
+pub mod Estimates
