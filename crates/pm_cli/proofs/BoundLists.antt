@@ -57,19 +57,19 @@ bounded (Project child columns) n (suc k) G p =
     (subst (λ m. IsBoundedBy G (bounds_of child (n + 1) G) m k (slice_get (nodes_of child (n + 1)) k)) next (bounded child (n + 1) k G p))
 bounded _ n k G p = absurd p
 
+abbrev none_of : Gauges
+none_of = gauge_in []
+
 -- the node at place k of a plan
 abbrev pub IsNodeAt : Tree → ℕ → Node → Type 0
 IsNodeAt t k nd = slice_get (nodes_of t 1) k ≡ Some nd
 
 pub children : (t : Tree) (k : ℕ) (nd : Node) → IsProjectedScan t → IsNodeAt t k nd → HasChildren nd (length (nodes_of t 1))
-children t k nd p e = of_node nd (subst (IsBoundedBy G (bounds_of t 1 G) (1 + k) k) e (bounded t 1 k G p))
+children t k nd p e = of_node nd (subst (IsBoundedBy none_of (bounds_of t 1 none_of) (1 + k) k) e (bounded t 1 k none_of p))
   where
-    abbrev G : Gauges
-    G = gauge_in []
-
-    of_node : (nd : Node) → IsBoundedBy G (bounds_of t 1 G) (1 + k) k (Some nd) → HasChildren nd (length (nodes_of t 1))
+    of_node : (nd : Node) → IsBoundedBy none_of (bounds_of t 1 none_of) (1 + k) k (Some nd) → HasChildren nd (length (nodes_of t 1))
     of_node (node.Scan table label) h = tt
-    of_node (node.Project child columns) h = (omega arith, omega (arith, h.0, h.2, length-bounds t 1 G p))
+    of_node (node.Project child columns) h = (omega arith, omega (arith, h.0, h.2, length-bounds t 1 none_of p))
     of_node _ h = absurd h
 
 -- a node's bound is that of its place, once the places after it are right

@@ -10,6 +10,5 @@ pub mod Declared
 pub mod UnderPlan
 pub mod RootRows
 pub mod Turns
-pub mod Sides
 pub mod Certain
 pub mod TopCall

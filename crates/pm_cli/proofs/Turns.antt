@@ -51,7 +51,7 @@ room run e is within =
 -- after all events the root has handed out its output
 first-handed : (db : Db) (t : Tree) (k : ℕ) (d : Gauge) → (get_or (gauges_at db t k) 0 d).handed ≡ counts_at db t k 1
 first-handed db (Scan table label) k d = refl
-first-handed db (Project child columns) k d = refl
+first-handed db _ k d = refl
 
 pub root-rows : (db : Db) (t : Tree) (d : Gauge) → (get_or (gauges_at db t (whole_work db t)) 0 d).handed ≡ length (output db t)
 root-rows db t d =

@@ -10,7 +10,7 @@ use Rattle.pm_plan.specs.Rows.{Db}
 use Rattle.pm_plan.specs.Preorder.{tree_of, IsNumbered}
 use Rattle.pm_work.specs.Work.{whole_work, scanned_rows}
 use Rattle.pm_work.specs.Moments.{counts_at, gauges_at}
-use Rattle.pm_cli.specs.TablePlan.{IsTablePlan, below, tree_over, plan_over}
+use Rattle.pm_cli.specs.TablePlan.{IsTablePlan, IsProjectedScan, below, tree_over, plan_over}
 use Rattle.pm_work.proofs.Totals.{counts-moment}
 use Rattle.pm_cli.specs.Estimates.{shown_at}
 use Rattle.pm_cli.specs.Sums.{SumsFit}
@@ -25,6 +25,7 @@ pub record IsMoment (plan : Plan) (db : Db) (t : ℕ) : Type 0 where
   pub sums : SumsFit (tree_of plan.nodes) (gauges_at db (tree_of plan.nodes) t)
   pub nodes : length (gauges_at db (tree_of plan.nodes) t) ≡ length plan.nodes
   pub numbered : IsNumbered plan.nodes
+  pub scan : IsProjectedScan (tree_of plan.nodes)
 
 twice : (table : Relation) → whole_work (table ∷ []) (tree_over table.decl) ≡ length table.rows + length table.rows
 twice table = ap (λ k. k + length table.rows) (length-map table.rows (pick (below (length table.decl.columns))))
@@ -54,6 +55,7 @@ over_table table t declared within =
       };
       nodes = refl;
       numbered = refl;
+      scan = tt;
     }
 
 pub at_moment : (plan : Plan) (db : Db) (t : ℕ) → IsTablePlan plan db → All IsRelation db → t ≤ whole_work db (tree_of plan.nodes) → IsMoment plan db t

@@ -1,6 +1,5 @@
 -- what is promised of the numbers of a run: at every event, and so on every progress line
 use Rattle.std.specs.Prelude.{◌≡◌, ℕ, ◌+◌, ◌*◌, ◌<◌, ◌≤◌, Some}
-use Rattle.pm_fraction.specs.Hundredths.{hundredths_down, hundredths_up}
 use Rattle.pm_plan.specs.declared.gauge.Shown.{Shown}
 use Rattle.pm_plan.specs.declared.plan.Plan.{Plan}
 use Rattle.pm_query.specs.declared.query.Query.{Query}
@@ -9,6 +8,7 @@ use Rattle.pm_plan.specs.Preorder.{tree_of}
 use Rattle.pm_plan.specs.Outputs.{output}
 use Rattle.pm_work.specs.Work.{whole_work, scanned_rows}
 use Rattle.pm_query.specs.Answer.{answer}
+use Rattle.pm_bounds.specs.Estimates.{PercentEncloses}
 use Rattle.pm_cli.specs.Estimates.{shown_at}
 
 -- of what is shown of one event, for a whole work w of which so many rows are scanned
@@ -23,9 +23,7 @@ pub record IsCertified (w scanned : ℕ) (s : Shown) : Type 0 where
   pub safe_below : (g : ℕ) → s.safe_den ≡ Some g → g * g * s.lo ≤ s.hi * w * w
   pub safe_above : (g : ℕ) → s.safe_den ≡ Some g → w * w * s.lo < s.hi * (g + 1) * (g + 1)
   -- the percentages enclose the true one
-  pub percent_below : hundredths_down s.work s.hi * w ≤ 10000 * s.work
-  pub percent_above : 10000 * s.work ≤ hundredths_up s.work s.lo * w
-  pub percent_whole : hundredths_up s.work s.lo ≤ 10000
+  pub percent : PercentEncloses s.work s.lo w s.hi
 
 -- of a plan for a query, over a database
 pub record AreCertified (query : Query) (plan : Plan) (db : Db) : Type 0 where

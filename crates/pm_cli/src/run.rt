@@ -59,6 +59,11 @@ impl<'a> Model for Run<'a> {
 
     ghost Value = { RunState };
 
+    ghost use Rattle.std.specs.Coded.{codes};
+    ghost use Rattle.pm_values.specs.contracts.condition.Cond as cond;
+
+    ghost coded = { Prim.hlevel (codes, cond.the_row.coded) };
+
     ghost use Rattle.pm_cli.specs.IsRun.{run_of, IsRun};
 
     ghost view = { run_of };
