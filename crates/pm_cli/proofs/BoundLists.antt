@@ -7,87 +7,104 @@ use Rattle.pm_plan.specs.declared.gauge.Gauge.{Gauge}
 use Rattle.pm_plan.specs.declared.gauge.Bound.{Bound}
 use Rattle.pm_plan.specs.declared.plan.Node.{Node}
 use Rattle.pm_plan.specs.declared.plan.Node.TheVariants as node
-use Rattle.pm_plan.specs.Tree.{Tree, Scan, Project, nodes_of}
-use Rattle.pm_cli.specs.Bounds.{gauge_at, bound_of, bounds_of, node_bound, HasChildren}
+use Rattle.pm_plan.specs.Tree.{Tree, Scan, Project}
+use Rattle.pm_plan.specs.Preorder.{nodes_of}
+use Rattle.pm_work.specs.Moments.{Gauges, gauge_in}
+use Rattle.pm_bounds.specs.Bounds.{bound_of, bounds_of}
+use Rattle.pm_cli.specs.TablePlan.{IsProjectedScan}
+use Rattle.pm_cli.specs.Bounds.{node_bound, HasChildren}
 
-pub length-bounds : (t : Tree) (n : ℕ) (G : List Gauge) → length (bounds_of t n G) ≡ length (nodes_of t n)
-length-bounds (Scan table label) n G = refl
-length-bounds (Project child columns) n G = ap suc (length-bounds child (n + 1) G)
+pub length-bounds : (t : Tree) (n : ℕ) (G : Gauges) → IsProjectedScan t → length (bounds_of t n G) ≡ length (nodes_of t n)
+length-bounds (Scan table label) n G p = refl
+length-bounds (Project child columns) n G p = ap suc (length-bounds child (n + 1) G p)
+length-bounds _ n G p = absurd p
 
 nodes-some : (t : Tree) (n : ℕ) → 0 < length (nodes_of t n)
 nodes-some (Scan table label) n = omega arith
-nodes-some (Project child columns) n = omega arith
+nodes-some _ n = omega arith
 
 abbrev none : Bound
 none = record { lo = 0; hi = 0 }
 
-first-bound : (t : Tree) (n : ℕ) (G : List Gauge) → get_or (bounds_of t n G) 0 none ≡ bound_of t n G
+first-bound : (t : Tree) (n : ℕ) (G : Gauges) → get_or (bounds_of t n G) 0 none ≡ bound_of t n G
 first-bound (Scan table label) n G = refl
-first-bound (Project child columns) n G = refl
+first-bound _ n G = refl
 
 -- node number m stands at place k, among nodes with these bounds
-abbrev IsBoundedBy : List Gauge → List Bound → ℕ → ℕ → Option Node → Type 0
+abbrev IsBoundedBy : Gauges → List Bound → ℕ → ℕ → Option Node → Type 0
 IsBoundedBy G bounds m k None = Unit {0}
 IsBoundedBy G bounds m k (Some (node.Scan table label)) =
-    get_or bounds k none ≡ record { lo = (gauge_at G m).size; hi = (gauge_at G m).size }
+    get_or bounds k none ≡ record { lo = (G m).size; hi = (G m).size }
 IsBoundedBy G bounds m k (Some (node.Project child columns)) =
     (child ≡ m + 1) × (get_or bounds k none ≡ get_or bounds (suc k) none) × (suc k < length bounds)
+IsBoundedBy G bounds m k (Some _) = ⊥
 
-shifted : (G : List Gauge) (bounds : List Bound) (b : Bound) (m k : ℕ) (o : Option Node)
+shifted : (G : Gauges) (bounds : List Bound) (b : Bound) (m k : ℕ) (o : Option Node)
     → IsBoundedBy G bounds m k o → IsBoundedBy G (b ∷ bounds) m (suc k) o
 shifted G bounds b m k None h = tt
 shifted G bounds b m k (Some (node.Scan table label)) h = h
 shifted G bounds b m k (Some (node.Project child columns)) h = (h.0, h.1, omega arith)
+shifted G bounds b m k (Some _) h = absurd h
 
-bounded : (t : Tree) (n k : ℕ) (G : List Gauge) → IsBoundedBy G (bounds_of t n G) (n + k) k (slice_get (nodes_of t n) k)
-bounded (Scan table label) n zero G = let same : n + 0 ≡ n = omega arith in rw same refl
-bounded (Scan table label) n (suc k) G = tt
-bounded (Project child columns) n zero G =
-    (omega arith, sym (first-bound child (n + 1) G), omega (arith, length-bounds child (n + 1) G, nodes-some child (n + 1)))
-bounded (Project child columns) n (suc k) G =
+bounded : (t : Tree) (n k : ℕ) (G : Gauges) → IsProjectedScan t → IsBoundedBy G (bounds_of t n G) (n + k) k (slice_get (nodes_of t n) k)
+bounded (Scan table label) n zero G p = let same : n + 0 ≡ n = omega arith in rw same refl
+bounded (Scan table label) n (suc k) G p = tt
+bounded (Project child columns) n zero G p =
+    (omega arith, sym (first-bound child (n + 1) G), omega (arith, length-bounds child (n + 1) G p, nodes-some child (n + 1)))
+bounded (Project child columns) n (suc k) G p =
     let next : n + 1 + k ≡ n + suc k = omega arith in
     shifted G (bounds_of child (n + 1) G) (bound_of (Project child columns) n G) (n + suc k) k (slice_get (nodes_of child (n + 1)) k)
-    (subst (λ m. IsBoundedBy G (bounds_of child (n + 1) G) m k (slice_get (nodes_of child (n + 1)) k)) next (bounded child (n + 1) k G))
+    (subst (λ m. IsBoundedBy G (bounds_of child (n + 1) G) m k (slice_get (nodes_of child (n + 1)) k)) next (bounded child (n + 1) k G p))
+bounded _ n k G p = absurd p
+
+abbrev none_of : Gauges
+none_of = gauge_in []
 
 -- the node at place k of a plan
 abbrev pub IsNodeAt : Tree → ℕ → Node → Type 0
 IsNodeAt t k nd = slice_get (nodes_of t 1) k ≡ Some nd
 
-pub children : (t : Tree) (k : ℕ) (nd : Node) → IsNodeAt t k nd → HasChildren nd (length (nodes_of t 1))
-children t k nd e = of_node nd (subst (IsBoundedBy [] (bounds_of t 1 []) (1 + k) k) e (bounded t 1 k []))
+pub children : (t : Tree) (k : ℕ) (nd : Node) → IsProjectedScan t → IsNodeAt t k nd → HasChildren nd (length (nodes_of t 1))
+children t k nd p e = of_node nd (subst (IsBoundedBy none_of (bounds_of t 1 none_of) (1 + k) k) e (bounded t 1 k none_of p))
   where
-    of_node : (nd : Node) → IsBoundedBy [] (bounds_of t 1 []) (1 + k) k (Some nd) → HasChildren nd (length (nodes_of t 1))
+    of_node : (nd : Node) → IsBoundedBy none_of (bounds_of t 1 none_of) (1 + k) k (Some nd) → HasChildren nd (length (nodes_of t 1))
     of_node (node.Scan table label) h = tt
-    of_node (node.Project child columns) h = (omega arith, omega (arith, h.0, h.2, length-bounds t 1 []))
+    of_node (node.Project child columns) h = (omega arith, omega (arith, h.0, h.2, length-bounds t 1 none_of p))
+    of_node _ h = absurd h
 
 -- a node's bound is that of its place, once the places after it are right
-node-bound : (t : Tree) (k : ℕ) (G : List Gauge) (into : List Bound) (nd : Node)
-    → drop (k + 1) into ≡ drop (k + 1) (bounds_of t 1 G) → IsBoundedBy G (bounds_of t 1 G) (1 + k) k (Some nd)
-    → node_bound nd (k + 1) G into ≡ get_or (bounds_of t 1 G) k none
-node-bound t k G into (node.Scan table label) done h =
+node-bound : (t : Tree) (k : ℕ) (gauges : List Gauge) (into : List Bound) (nd : Node)
+    → drop (k + 1) into ≡ drop (k + 1) (bounds_of t 1 (gauge_in gauges)) → IsBoundedBy (gauge_in gauges) (bounds_of t 1 (gauge_in gauges)) (1 + k) k (Some nd)
+    → node_bound nd (k + 1) gauges into ≡ get_or (bounds_of t 1 (gauge_in gauges)) k none
+node-bound t k gauges into (node.Scan table label) done h =
     let same : 1 + k ≡ k + 1 = omega arith in
-    sym (subst (λ m. get_or (bounds_of t 1 G) k none ≡ record { lo = (gauge_at G m).size; hi = (gauge_at G m).size }) same h)
-node-bound t k G into (node.Project child columns) done h =
+    let G : Gauges = gauge_in gauges in
+    sym (subst (λ m. get_or (bounds_of t 1 G) k none ≡ record { lo = (G m).size; hi = (G m).size }) same h)
+node-bound t k gauges into (node.Project child columns) done h =
     let place : child - 1 ≡ suc k = omega (arith, h.0) in
     let next : k + 1 + 0 ≡ suc k = omega arith in
+    let bounds : List Bound = bounds_of t 1 (gauge_in gauges) in
     ap (λ i. get_or into i none) (place ∙ sym next)
     ∙ sym (get_or-drop (k + 1) into 0 none)
     ∙ ap (λ l. get_or l 0 none) done
-    ∙ get_or-drop (k + 1) (bounds_of t 1 G) 0 none
-    ∙ ap (λ i. get_or (bounds_of t 1 G) i none) next
+    ∙ get_or-drop (k + 1) bounds 0 none
+    ∙ ap (λ i. get_or bounds i none) next
     ∙ sym h.1
+node-bound t k gauges into _ done h = absurd h
 
 -- writing the bound of the node at place k
-pub written : (t : Tree) (k : ℕ) (G : List Gauge) (into : List Bound) (nd : Node) (b : Bound)
-    → IsNodeAt t k nd → k < length (nodes_of t 1) → length into ≡ length (nodes_of t 1)
-    → drop (k + 1) into ≡ drop (k + 1) (bounds_of t 1 G) → b ≡ node_bound nd (k + 1) G into
-    → drop k (slice_set into k b) ≡ drop k (bounds_of t 1 G)
-written t k G into nd b there within long done is =
+pub written : (t : Tree) (k : ℕ) (gauges : List Gauge) (into : List Bound) (nd : Node) (b : Bound)
+    → IsProjectedScan t → IsNodeAt t k nd → k < length (nodes_of t 1) → length into ≡ length (nodes_of t 1)
+    → drop (k + 1) into ≡ drop (k + 1) (bounds_of t 1 (gauge_in gauges)) → b ≡ node_bound nd (k + 1) gauges into
+    → drop k (slice_set into k b) ≡ drop k (bounds_of t 1 (gauge_in gauges))
+written t k gauges into nd b p there within long done is =
+    let G : Gauges = gauge_in gauges in
+    let bounds : List Bound = bounds_of t 1 G in
     let inside : k < length into = omega arith in
-    let among : k < length (bounds_of t 1 G) = omega (arith, length-bounds t 1 G) in
-    let right : b ≡ get_or (bounds_of t 1 G) k none =
-    is ∙ node-bound t k G into nd done (subst (IsBoundedBy G (bounds_of t 1 G) (1 + k) k) there (bounded t 1 k G)) in
+    let among : k < length bounds = omega (arith, length-bounds t 1 G p) in
+    let right : b ≡ get_or bounds k none =
+    is ∙ node-bound t k gauges into nd done (subst (IsBoundedBy G bounds (1 + k) k) there (bounded t 1 k G p)) in
     drop-set into k b inside
-    ∙ ap (λ l. b ∷ l) (done ∙ ap (λ i. drop i (bounds_of t 1 G)) (add-one k))
-    ∙ ap (λ x. x ∷ drop (suc k) (bounds_of t 1 G)) right
-    ∙ sym (drop-cons (bounds_of t 1 G) k none among)
+    ∙ ap (λ l. b ∷ l) (done ∙ ap (λ i. drop i bounds) (add-one k))
+    ∙ ap (λ x. x ∷ drop (suc k) bounds) right
+    ∙ sym (drop-cons bounds k none among)

@@ -5,9 +5,9 @@ use Rattle.std.proofs.lemmas.List.Elements.{All-from_recursion}
 use Rattle.pm_values.specs.Table.{Relation, IsRelation}
 use Rattle.pm_plan.specs.declared.plan.Plan.{Plan}
 use Rattle.pm_plan.specs.Rows.{Db}
-use Rattle.pm_plan.specs.Fits.{Fits}
+use Rattle.pm_cli.specs.TablePlan.{IsTablePlan}
 
-pub only-declared : (plan : Plan) (db : Db) → Fits plan db
+pub only-declared : (plan : Plan) (db : Db) → IsTablePlan plan db
     → ((table : Relation) → slice_get db 0 ≡ Some table → IsRelation table) → All IsRelation db
 only-declared plan [] fits declared = absurd fits
 only-declared plan (table ∷ []) fits declared = All-from_recursion IsRelation (table ∷ []) (declared table refl, tt)

@@ -1,8 +1,8 @@
 -- the front of what is left of a list
 use Rattle.std.proofs.Common.{◌≡◌, ℕ, zero, suc, ◌+◌, ◌<◌, List, [], ◌∷◌, ◌++◌, length, drop, take, refl, ap, arith, add-one}
 use Rattle.std.specs.Prelude.{Some, None, slice_get}
-use Rattle.pm_plan.specs.Rows.{Row}
-use Rattle.pm_plan.specs.Events.{handed}
+use Rattle.pm_values.specs.Row.{Row}
+use Rattle.pm_work.specs.Events.{handed}
 use Rattle.pm_cli.specs.Left.{last_of}
 
 drop-next : (k : ℕ) (rows : List Row) → k < length rows → drop k rows ≡ last_of (suc k) rows ∷ drop (suc k) rows

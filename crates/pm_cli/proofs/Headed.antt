@@ -1,16 +1,18 @@
 -- what a node tells of the tree that it heads
-use Rattle.std.proofs.Common.{◌≡◌, ℕ, ◌+◌, ◌-◌, ◌*◌, ◌<◌, ◌≤◌, ◌^◌, List, [], ◌∷◌, length, refl, ap, sym, subst, ◌∙◌, arith}
+use Rattle.std.proofs.Common.{◌≡◌, ◌≢◌, ℕ, ◌+◌, ◌-◌, ◌*◌, ◌<◌, ◌≤◌, ◌^◌, List, [], ◌∷◌, length, refl, ap, sym, subst, ◌∙◌, arith}
 use Rattle.std.specs.Prelude.{Some, slice_get}
 use Rattle.std.proofs.lemmas.List.{length-map}
 use Rattle.pm_plan.specs.declared.plan.Label.{Label}
 use Rattle.pm_plan.specs.declared.plan.Plan.{Plan}
 use Rattle.pm_plan.specs.declared.plan.Node.{Node}
 use Rattle.pm_plan.specs.declared.plan.Node.TheVariants as node
-use Rattle.pm_plan.specs.Rows.{Db, table_rows, pick}
-use Rattle.pm_plan.specs.Tree.{Tree, Scan, Project, Heads, IsNumbered, tree_of}
-use Rattle.pm_plan.specs.Events.{Event, events, after, handed}
-use Rattle.pm_plan.specs.Fits.{Fits, below, tree_over}
-use Rattle.pm_plan.proofs.EventLaws.{length-events}
+use Rattle.pm_values.specs.Row.{pick}
+use Rattle.pm_plan.specs.Rows.{Db, table_rows}
+use Rattle.pm_plan.specs.Tree.{Tree, Scan, Project}
+use Rattle.pm_plan.specs.Preorder.{Heads, IsNumbered, tree_of}
+use Rattle.pm_work.specs.Events.{Event, events, after, handed}
+use Rattle.pm_cli.specs.TablePlan.{IsTablePlan, IsProjectedScan, below, tree_over}
+use Rattle.pm_work.proofs.EventLaws.{length-events}
 use Rattle.pm_cli.specs.Left.{InPlan, IsScan, table_of, columns_of}
 use Rattle.pm_cli.specs.Fresh.{HasTables, HeadsTree, AreAll}
 
@@ -21,14 +23,25 @@ module _ (nodes : List Node) (n : ℕ) where
       let tables : table' ≡ table = cc in
       let labels : label' ≡ label = cc in
       ap (λ x. Scan x label') tables ∙ ap (Scan table) labels
-  scan_of (Project child columns) table label e s = let z = s.0 in absurd cc
+  scan_of _ table label e s = let z = s.0 in absurd cc
 
   project_of : (t : Tree) (c : ℕ) (cs : List ℕ) → slice_get nodes (n - 1) ≡ Some (node.Project c cs) → Heads nodes t n
       → (child : Tree) × (t ≡ Project child cs) × Heads nodes child (n + 1) × (c ≡ n + 1)
   project_of (Scan table label) c cs e s = absurd cc
   project_of (Project child columns) c cs e s = let z = s.0 in (child, ap (Project child) cc, s.1, cc)
+  project_of _ c cs e s = let z = s.0 in absurd cc
 
 module _ (db : Db) (nodes : List Node) (n : ℕ) where
+  -- a node that heads a tree is a scan or a projection
+  pub scan_or_project : (x : Node) → slice_get nodes (n - 1) ≡ Some x → HeadsTree db nodes n
+      → ((table : ℕ) (label : Label) → x ≢ node.Scan table label) → ((c : ℕ) (cs : List ℕ) → x ≢ node.Project c cs) → ⊥
+  scan_or_project x e w other_than_scan other_than_project = of w.0 w.1 w.2
+    where
+      of : (t : Tree) → Heads nodes t n → HasTables db nodes t n → ⊥
+      of (Scan table label) s h = other_than_scan table label cc
+      of (Project child columns) s h = let z = s.0 in other_than_project (n + 1) columns cc
+      of _ s h = h
+
   pub scan_table : (table : ℕ) (label : Label) → slice_get nodes (n - 1) ≡ Some (node.Scan table label) → HeadsTree db nodes n
       → IsScan (slice_get nodes (n - 1)) db
   scan_table table label e w =
@@ -55,17 +68,19 @@ module _ (db : Db) (nodes : List Node) (n : ℕ) where
           → after (n + 1) (λ row. handed n (pick (columns_of (slice_get nodes (n - 1))) row ∷ [])) es ≡ events db t n
       each (Scan table label) s = absurd cc
       each (Project child columns) s = rw (s.0, deep.each child s.1) refl
+      each _ s = let z = s.0 in absurd cc
 
 -- a plan that fits heads its tree, over the one table, and calls for two events a row
 pub record Headed (plan : Plan) (db : Db) : Type 0 where
   pub in_plan : InPlan plan.nodes 1
   pub numbered : IsNumbered plan.nodes
+  pub scan : IsProjectedScan (tree_of plan.nodes)
   pub heads : Heads plan.nodes (tree_of plan.nodes) 1
   pub tables : HasTables db plan.nodes (tree_of plan.nodes) 1
   pub one : 0 < length db
   pub work : length (events db (tree_of plan.nodes) 1) ≡ 2 * length (table_rows db 0)
 
-pub headed : (plan : Plan) (db : Db) → Fits plan db → Headed plan db
+pub headed : (plan : Plan) (db : Db) → IsTablePlan plan db → Headed plan db
 headed plan [] fits = absurd fits
 headed plan (table ∷ []) fits =
     let child : (1 ≤ 2) × (2 ≤ 2) × (2 < 2 ^ 32) = (omega arith, omega arith, omega arith) in
@@ -75,6 +90,7 @@ headed plan (table ∷ []) fits =
     (record {
       in_plan = (omega arith, omega arith, omega arith);
       numbered = refl;
+      scan = tt;
       heads = (refl, refl);
       tables = (child, omega arith);
       one = omega arith;

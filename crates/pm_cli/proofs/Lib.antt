@@ -1,6 +1,8 @@
 pub mod BoundLists
 pub mod PipeLists
+pub mod Sums
 pub mod Drops
+pub mod TableRows
 pub mod Headed
 pub mod Counted
 pub mod Steps
@@ -8,6 +10,5 @@ pub mod Declared
 pub mod UnderPlan
 pub mod RootRows
 pub mod Turns
-pub mod Sides
 pub mod Certain
 pub mod TopCall

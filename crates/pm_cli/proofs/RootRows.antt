@@ -14,12 +14,13 @@ use Rattle.pm_values.specs.declared.table.ColumnDecl.{ColumnDecl}
 use Rattle.pm_values.specs.Table.{Relation, IsRelation, IsOfKind, FitsColumn, FitsColumns, HasScale, IsScale}
 use Rattle.pm_values.specs.ValueText.{value_text, HasText}
 use Rattle.pm_plan.specs.declared.plan.Plan.{Plan}
-use Rattle.pm_plan.specs.Rows.{Row, Db, cell}
-use Rattle.pm_plan.specs.Tree.{tree_of}
-use Rattle.pm_plan.specs.Events.{Event, events, rows_at}
-use Rattle.pm_plan.specs.Fits.{Fits, tree_over}
-use Rattle.pm_plan.proofs.EventLaws.{rows_at-events}
-use Rattle.pm_plan.proofs.Widths.{pick-all}
+use Rattle.pm_values.specs.Row.{Row, cell}
+use Rattle.pm_plan.specs.Rows.{Db}
+use Rattle.pm_plan.specs.Preorder.{tree_of}
+use Rattle.pm_work.specs.Events.{Event, events, rows_at}
+use Rattle.pm_cli.specs.TablePlan.{IsTablePlan, tree_over}
+use Rattle.pm_work.proofs.EventLaws.{rows_at-events}
+use Rattle.pm_cli.proofs.TableRows.{pick-all}
 use Rattle.pm_cli.specs.Ran.{Ran}
 use Rattle.pm_cli.specs.Ticks.{HasRootRow, last_row, last_event, IsOf, row_in}
 use Rattle.pm_cli.specs.Text.{row_texts}
@@ -80,7 +81,7 @@ row-over table (suc k) declared is =
     fits-kinds columns (row_in (slice_get es k)) (recursion_from_All HasScale columns declared.declared.scales)
     (row-among (FitsColumns columns) 1 es k (subst (AllByRecursion (FitsColumns columns)) (sym whole) rows) is)
 
-row-under : (plan : Plan) (db : Db) (taken : ℕ) → Fits plan db → All IsRelation db
+row-under : (plan : Plan) (db : Db) (taken : ℕ) → IsTablePlan plan db → All IsRelation db
     → IsOf 1 (last_event (events db (tree_of plan.nodes) 1) taken)
     → FitsKinds plan.kinds (row_in (last_event (events db (tree_of plan.nodes) 1) taken))
 row-under plan [] taken fits declared is = absurd fits
@@ -92,7 +93,7 @@ row-under plan (table ∷ []) taken fits declared is =
 row-under plan (table ∷ other ∷ tables) taken fits declared is = absurd fits
 
 -- the row that the root has just handed out
-pub root-fits : (ran : Ran) → Fits ran.plan ran.db → All IsRelation ran.db → HasRootRow ran → FitsKinds ran.plan.kinds (last_row ran)
+pub root-fits : (ran : Ran) → IsTablePlan ran.plan ran.db → All IsRelation ran.db → HasRootRow ran → FitsKinds ran.plan.kinds (last_row ran)
 root-fits ran fits declared is = row-under ran.plan ran.db ran.taken fits declared is
 
 -- the text of one column

@@ -1,9 +1,9 @@
 -- an event of a run
 use Rattle.std.proofs.Common.{◌≡◌, ◌+◌, ◌<◌, ◌≤◌, List, [], ◌∷◌, length, drop, ap, arith, length-drop, add-one}
 use Rattle.std.specs.Prelude.{Some, slice_get}
-use Rattle.pm_plan.specs.Tree.{tree_of}
-use Rattle.pm_plan.specs.Events.{Event}
-use Rattle.pm_plan.proofs.EventLaws.{length-events}
+use Rattle.pm_plan.specs.Preorder.{tree_of}
+use Rattle.pm_work.specs.Events.{Event}
+use Rattle.pm_work.proofs.EventLaws.{length-events}
 use Rattle.pm_cli.specs.Ran.{Ran}
 use Rattle.pm_cli.specs.Ticks.{events_of, whole_work_of, last_event}
 use Rattle.pm_cli.proofs.Drops.{get-of_drop, drop-more}

@@ -1,9 +1,7 @@
 -- the answer of the top call, from how loading ended
 use Rattle.std.proofs.Common.{◌≡◌, ◌≢◌, [], ◌∷◌, List, ℕ, Option, Some, None, Result, Ok, Err, refl, sym, ap, subst, ◌⊎◌, inl, inr}
 use Rattle.std.specs.Prelude.{IfSome, IsErrOf}
-use Rattle.std.proofs.lemmas.List.Elements.{All-from_recursion}
 use Rattle.pm_values.specs.Table.{Relation, IsRelation}
-use Rattle.pm_plan.specs.Fits.{plan_over}
 use Rattle.pm_inputs.specs.declared.refusal.Refusal.{Refusal}
 use Rattle.pm_inputs.specs.declared.refusal.Refusal.TheVariants as refusal
 use Rattle.pm_inputs.specs.Calls.{Calls, IfAnswered}
@@ -15,9 +13,7 @@ use Rattle.pm_tables.specs.declared.fault.DataBad.TheVariants as bad
 use Rattle.pm_cli.specs.declared.status.Status.{Status}
 use Rattle.pm_cli.specs.declared.status.Status.TheVariants as status
 use Rattle.pm_cli.specs.Status.{status_of}
-use Rattle.pm_cli.specs.Certified.{AreCertified}
 use Rattle.pm_cli.specs.Answers.{Explains, IsAnswerTo, IsSetback, IsRefused, IsLineOf, line_of, data_line}
-use Rattle.pm_cli.proofs.Certain.{certified}
 
 -- where the bytes are told
 pub where-told : {T : Type 0} (told : Option T) {P Q : T → Type 0} → ((held : T) → P held → Q held) → IfSome told P → IfSome told Q
@@ -26,9 +22,6 @@ where-told (Some held) f p = f held p
 
 pub same-table : (a b : Relation) → (let r : Result Relation Refusal = Ok a in r) ≡ Ok b → a ≡ b
 same-table a b e = cc
-
-pub table-certified : (table : Relation) → IsRelation table → AreCertified (plan_over table.decl) (table ∷ [])
-table-certified table declared = certified (plan_over table.decl) (table ∷ []) refl (All-from_recursion IsRelation (table ∷ []) (declared, tt))
 
 -- a run that ends so answers its table
 pub run-answers : (called : Result Relation Refusal) (table : Relation) (s : Status) → Ok table ≡ called

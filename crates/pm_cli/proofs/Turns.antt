@@ -6,11 +6,13 @@ use Rattle.std.proofs.lemmas.List.{take_all}
 use Rattle.pm_plan.specs.declared.gauge.Gauge.{Gauge}
 use Rattle.pm_plan.specs.declared.plan.Plan.{Plan}
 use Rattle.pm_plan.specs.Rows.{Db}
-use Rattle.pm_plan.specs.Tree.{Tree, Scan, Project, tree_of}
-use Rattle.pm_plan.specs.Outputs.{output, whole_work}
-use Rattle.pm_plan.specs.Events.{events, rows_at}
-use Rattle.pm_plan.specs.Moments.{counts_at, gauges_at}
-use Rattle.pm_plan.proofs.EventLaws.{length-events, rows_at-events}
+use Rattle.pm_plan.specs.Tree.{Tree, Scan, Project}
+use Rattle.pm_plan.specs.Preorder.{tree_of}
+use Rattle.pm_plan.specs.Outputs.{output}
+use Rattle.pm_work.specs.Work.{whole_work}
+use Rattle.pm_work.specs.Events.{events, rows_at}
+use Rattle.pm_work.specs.Moments.{counts_at, gauges_at}
+use Rattle.pm_work.proofs.EventLaws.{length-events, rows_at-events}
 use Rattle.pm_lines.specs.Progress.{end_line}
 use Rattle.pm_cli.specs.Ran.{Ran}
 use Rattle.pm_cli.specs.Ticks.{events_of, whole_work_of, last_event}
@@ -49,7 +51,7 @@ room run e is within =
 -- after all events the root has handed out its output
 first-handed : (db : Db) (t : Tree) (k : ℕ) (d : Gauge) → (get_or (gauges_at db t k) 0 d).handed ≡ counts_at db t k 1
 first-handed db (Scan table label) k d = refl
-first-handed db (Project child columns) k d = refl
+first-handed db _ k d = refl
 
 pub root-rows : (db : Db) (t : Tree) (d : Gauge) → (get_or (gauges_at db t (whole_work db t)) 0 d).handed ≡ length (output db t)
 root-rows db t d =

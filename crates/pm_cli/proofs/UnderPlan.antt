@@ -5,12 +5,13 @@ use Rattle.std.proofs.lemmas.List.Elements.{recursion_from_All}
 use Rattle.std.specs.Prelude.{All}
 use Rattle.pm_values.specs.Table.{Relation, IsRelation}
 use Rattle.pm_plan.specs.declared.plan.Plan.{Plan}
-use Rattle.pm_plan.specs.Rows.{Db, pick}
-use Rattle.pm_plan.specs.Tree.{tree_of, IsNumbered}
-use Rattle.pm_plan.specs.Outputs.{whole_work, scanned_rows}
-use Rattle.pm_plan.specs.Moments.{counts_at, gauges_at}
-use Rattle.pm_plan.specs.Fits.{Fits, below, tree_over, plan_over}
-use Rattle.pm_plan.proofs.EventLaws.{counts-moment}
+use Rattle.pm_values.specs.Row.{pick}
+use Rattle.pm_plan.specs.Rows.{Db}
+use Rattle.pm_plan.specs.Preorder.{tree_of, IsNumbered}
+use Rattle.pm_work.specs.Work.{whole_work, scanned_rows}
+use Rattle.pm_work.specs.Moments.{counts_at, gauges_at}
+use Rattle.pm_cli.specs.TablePlan.{IsTablePlan, IsProjectedScan, below, tree_over, plan_over}
+use Rattle.pm_work.proofs.Totals.{counts-moment}
 use Rattle.pm_cli.specs.Estimates.{shown_at}
 use Rattle.pm_cli.specs.Sums.{SumsFit}
 
@@ -24,6 +25,7 @@ pub record IsMoment (plan : Plan) (db : Db) (t : ℕ) : Type 0 where
   pub sums : SumsFit (tree_of plan.nodes) (gauges_at db (tree_of plan.nodes) t)
   pub nodes : length (gauges_at db (tree_of plan.nodes) t) ≡ length plan.nodes
   pub numbered : IsNumbered plan.nodes
+  pub scan : IsProjectedScan (tree_of plan.nodes)
 
 twice : (table : Relation) → whole_work (table ∷ []) (tree_over table.decl) ≡ length table.rows + length table.rows
 twice table = ap (λ k. k + length table.rows) (length-map table.rows (pick (below (length table.decl.columns))))
@@ -53,9 +55,10 @@ over_table table t declared within =
       };
       nodes = refl;
       numbered = refl;
+      scan = tt;
     }
 
-pub at_moment : (plan : Plan) (db : Db) (t : ℕ) → Fits plan db → All IsRelation db → t ≤ whole_work db (tree_of plan.nodes) → IsMoment plan db t
+pub at_moment : (plan : Plan) (db : Db) (t : ℕ) → IsTablePlan plan db → All IsRelation db → t ≤ whole_work db (tree_of plan.nodes) → IsMoment plan db t
 at_moment plan [] t fits declared within = absurd fits
 at_moment plan (table ∷ []) t fits declared within =
     let one : IsRelation table = (recursion_from_All IsRelation (table ∷ []) declared).0 in
@@ -63,7 +66,7 @@ at_moment plan (table ∷ []) t fits declared within =
     (over_table table t one (subst (λ p. t ≤ whole_work (table ∷ []) (tree_of p.nodes)) fits within))
 at_moment plan (table ∷ other ∷ tables) t fits declared within = absurd fits
 
-pub kinds-few : (plan : Plan) (db : Db) → Fits plan db → All IsRelation db → length plan.kinds ≤ 64
+pub kinds-few : (plan : Plan) (db : Db) → IsTablePlan plan db → All IsRelation db → length plan.kinds ≤ 64
 kinds-few plan [] fits declared = absurd fits
 kinds-few plan (table ∷ []) fits declared =
     let one : IsRelation table = (recursion_from_All IsRelation (table ∷ []) declared).0 in

@@ -2,7 +2,7 @@
 use Rattle.std.specs.Prelude.{◌≡◌, ◌≢◌, ◌⊎◌, ℕ, List, [], ◌∷◌, Option, None, Some, Result, Ok, Err}
 use Rattle.pm_values.specs.Table.{Relation}
 use Rattle.pm_io.specs.Files.{Held}
-use Rattle.pm_plan.specs.Fits.{plan_over}
+use Rattle.pm_cli.specs.TablePlan.{plan_over}
 use Rattle.pm_lines.specs.declared.refusal.Word.{Word}
 use Rattle.pm_lines.specs.declared.refusal.Word.TheVariants as word
 use Rattle.pm_lines.specs.declared.refusal.Values.{Values}

@@ -9,8 +9,8 @@ use Rattle.pm_plan.specs.declared.gauge.Whole.{Whole}
 use Rattle.pm_plan.specs.declared.gauge.Shown.{Shown}
 use Rattle.pm_plan.specs.Rows.{Db}
 use Rattle.pm_plan.specs.Tree.{Tree}
-use Rattle.pm_plan.specs.Moments.{gauges_at}
-use Rattle.pm_cli.specs.Bounds.{bounds_of, work_of, lo_of, hi_of}
+use Rattle.pm_work.specs.Moments.{gauge_in, gauges_at}
+use Rattle.pm_bounds.specs.Bounds.{bounds_of, work_done, lo_whole, hi_whole}
 use Rattle.pm_cli.specs.Pipelines.{pipes_of, driven}
 
 -- the root of lo * hi, rounded down, where the product fits 128 bits
@@ -29,13 +29,11 @@ estimate pipes gauges bounds whole =
       safe_den = safe_root whole.lo whole.hi;
     }
 
-abbrev pub whole_of : List Gauge → List Bound → Whole
-whole_of gauges bounds = record { work = work_of gauges; lo = lo_of bounds; hi = hi_of bounds }
-
 -- what is shown of a plan with these gauges
 abbrev pub shown_of : Tree → List Gauge → Shown
 shown_of tree gauges =
-    let bounds = bounds_of tree 1 gauges in estimate (pipes_of 1 tree) gauges bounds (whole_of gauges bounds)
+    let G = gauge_in gauges in
+    estimate (pipes_of 1 tree) gauges (bounds_of tree 1 G) (record { work = work_done tree G; lo = lo_whole tree G; hi = hi_whole tree G })
 
 -- what is shown after the first t events
 abbrev pub shown_at : Db → Tree → ℕ → Shown

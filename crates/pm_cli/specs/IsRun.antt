@@ -1,7 +1,7 @@
 -- what is true of every run that writes
 use Rattle.std.specs.Prelude.{◌≡◌, ◌≤◌, length, IfSome}
-use Rattle.pm_plan.specs.Tree.{tree_of}
-use Rattle.pm_plan.specs.Outputs.{whole_work}
+use Rattle.pm_plan.specs.Preorder.{tree_of}
+use Rattle.pm_work.specs.Work.{whole_work}
 use Rattle.pm_cli.specs.Pipelines.{pipes_of}
 use Rattle.pm_cli.specs.RunState.{RunState}
 use Rattle.pm_cli.specs.declared.run.Run.TheInside.{Inside}

@@ -2,8 +2,9 @@
 use Rattle.std.specs.Prelude.{◌≡◌, ℕ, zero, suc, ◌+◌, ◌-◌, ◌<◌, ◌≤◌, ◌^◌, if◌then◌else◌, List, [], ◌∷◌, ◌++◌, length, drop, slice_get, Option, Some, unwrap_or}
 use Rattle.pm_plan.specs.declared.plan.Node.{Node}
 use Rattle.pm_plan.specs.declared.plan.Node.TheVariants as node
-use Rattle.pm_plan.specs.Rows.{Row, Db, table_rows, pick}
-use Rattle.pm_plan.specs.Events.{Event, handed, after}
+use Rattle.pm_values.specs.Row.{Row, pick}
+use Rattle.pm_plan.specs.Rows.{Db, table_rows}
+use Rattle.pm_work.specs.Events.{Event, handed, after}
 use Rattle.pm_cli.specs.declared.exec.iter.Iter.{Iter, Scan, Project'}
 use Rattle.pm_cli.specs.declared.exec.iter.Tick.{Tick}
 use Rattle.pm_cli.specs.declared.exec.iter.Tick.TheVariants as tick

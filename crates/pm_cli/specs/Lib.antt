@@ -1,4 +1,5 @@
 pub mod Status
+pub mod TablePlan
 pub mod Bounds
 pub mod Pipelines
 pub mod Estimates

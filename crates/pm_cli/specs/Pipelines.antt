@@ -7,15 +7,16 @@ use Rattle.pm_plan.specs.Tree.{Tree, Scan, Project}
 -- whether the tree's root feeds its pipeline
 abbrev pub is_driver : Tree → Bool
 is_driver (Scan table label) = true
-is_driver (Project child columns) = false
+is_driver _ = false
 
 abbrev pub pipe_of : ℕ → Tree → Pipe
 pipe_of number tree = record { number = number; driver = is_driver tree }
 
--- the nodes of a tree in preorder, its root in the pipeline with this number
+-- the nodes of a tree in preorder, its root in the pipeline with this number; no other operators are run so far
 abbrev pub pipes_of : ℕ → Tree → List Pipe
 pipes_of number (Scan table label) = pipe_of number (Scan table label) ∷ []
 pipes_of number (Project child columns) = pipe_of number (Project child columns) ∷ pipes_of number child
+pipes_of number _ = []
 
 -- the sum of a number of each driver node
 abbrev pub driven : {X : Type 0} → (X → ℕ) → List Pipe → List X → ℕ

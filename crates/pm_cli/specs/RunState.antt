@@ -2,8 +2,8 @@
 use Rattle.std.specs.Prelude.{ℕ, ◌+◌, ◌==◌, if◌then◌else◌, List, Option}
 use Rattle.pm_plan.specs.declared.plan.Plan.{Plan}
 use Rattle.pm_plan.specs.Rows.{Db}
-use Rattle.pm_plan.specs.Tree.{tree_of}
-use Rattle.pm_plan.specs.Outputs.{whole_work}
+use Rattle.pm_plan.specs.Preorder.{tree_of}
+use Rattle.pm_work.specs.Work.{whole_work}
 use Rattle.pm_cli.specs.Text.{event_lines, end_text}
 use Rattle.pm_cli.specs.declared.run.Stage.{Stage}
 use Rattle.pm_cli.specs.declared.run.Stage.TheVariants as stage

@@ -2,9 +2,9 @@
 use Rattle.std.specs.Prelude.{◌≡◌, ◌≤◌, ◌<◌, ◌^◌, drop, length, All}
 use Rattle.pm_values.specs.Table.{IsRelation}
 use Rattle.pm_values.specs.declared.value.Value.TheVariants.{Null}
-use Rattle.pm_plan.specs.Tree.{tree_of}
-use Rattle.pm_plan.specs.Fits.{Fits}
-use Rattle.pm_plan.specs.Moments.{gauges_at}
+use Rattle.pm_plan.specs.Preorder.{tree_of}
+use Rattle.pm_cli.specs.TablePlan.{IsTablePlan}
+use Rattle.pm_work.specs.Moments.{gauges_at}
 use Rattle.pm_cli.specs.Left.{InPlan, IsIterOf, events_left, row_at_hand}
 use Rattle.pm_cli.specs.Ran.{Ran}
 use Rattle.pm_cli.specs.Ticks.{events_of, HasRootRow, last_row}
@@ -15,7 +15,7 @@ ran_of a = record { plan = a.plan.now; db = a.db.now; taken = a.taken }
 
 -- the root has left what is left of the events, the gauges are those of the moment, and the root's row is at hand
 pub record IsRunning (a : Inside) : Type 0 where
-  pub fits : Fits a.plan.now a.db.now
+  pub fits : IsTablePlan a.plan.now a.db.now
   pub declared : All IsRelation a.db.now
   pub in_plan : InPlan a.plan.now.nodes 1
   pub iter : IsIterOf a.plan.now.nodes a.db.now 1 a.root

@@ -4,10 +4,12 @@ use Rattle.std.specs.List.{zip}
 use Rattle.pm_values.specs.declared.value.Kind.{Kind}
 use Rattle.pm_values.specs.ValueText.{value_text}
 use Rattle.pm_plan.specs.declared.plan.Plan.{Plan}
-use Rattle.pm_plan.specs.Rows.{Row, Db}
-use Rattle.pm_plan.specs.Tree.{tree_of}
-use Rattle.pm_plan.specs.Outputs.{output, whole_work}
-use Rattle.pm_plan.specs.Events.{Event, events}
+use Rattle.pm_values.specs.Row.{Row}
+use Rattle.pm_plan.specs.Rows.{Db}
+use Rattle.pm_plan.specs.Preorder.{tree_of}
+use Rattle.pm_plan.specs.Outputs.{output}
+use Rattle.pm_work.specs.Work.{whole_work}
+use Rattle.pm_work.specs.Events.{Event, events}
 use Rattle.pm_plan.specs.PlanLines.{plan_lines}
 use Rattle.pm_lines.specs.Rows.{head_line, row_line}
 use Rattle.pm_lines.specs.Progress.{progress_line, end_line}

@@ -1,9 +1,9 @@
 -- the answers of the steps of a run
 use Rattle.std.specs.Prelude.{◌≡◌, ℕ, zero, suc, ◌+◌, List, [], slice_get, Option, Some, None}
-use Rattle.pm_plan.specs.Rows.{Row}
-use Rattle.pm_plan.specs.Tree.{tree_of}
-use Rattle.pm_plan.specs.Events.{Event, events}
-use Rattle.pm_plan.specs.Outputs.{whole_work}
+use Rattle.pm_values.specs.Row.{Row}
+use Rattle.pm_plan.specs.Preorder.{tree_of}
+use Rattle.pm_work.specs.Events.{Event, events}
+use Rattle.pm_work.specs.Work.{whole_work}
 use Rattle.pm_cli.specs.Ran.{Ran}
 use Rattle.pm_cli.specs.declared.exec.iter.Tick.{Tick}
 use Rattle.pm_cli.specs.declared.exec.iter.Tick.TheVariants as tick

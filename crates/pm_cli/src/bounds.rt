@@ -1,17 +1,20 @@
 //! Lower and upper bounds of what each operator hands out, and of the whole work, from the gauges of a moment.
 ghost use Rattle.std.specs.Prelude.{◌≡◌, ◌+◌, ◌<◌, ◌^◌, length};
-ghost use Rattle.pm_plan.specs.Tree.{tree_of, IsNumbered};
-ghost use Rattle.pm_cli.specs.Bounds.{bounds_of, node_bound, HasChildren, work_of, lo_of, hi_of};
-ghost use Rattle.pm_cli.specs.Estimates.{whole_of};
+ghost use Rattle.pm_plan.specs.Preorder.{tree_of, IsNumbered};
+ghost use Rattle.pm_work.specs.Moments.{gauge_in};
+ghost use Rattle.pm_bounds.specs.Bounds.{bounds_of};
+ghost use Rattle.pm_cli.specs.TablePlan.{IsProjectedScan};
+ghost use Rattle.pm_cli.specs.Bounds.{node_bound, HasChildren, work_of, lo_of, hi_of, whole_of};
 
 use pm_plan::{Bound, Gauge, Node, Plan, Whole};
 
-/// Writes each operator's bounds, in rows, in the plan's order.
+/// Writes each operator's bounds, in rows, in the plan's order, of a plan of a scan or of projections over one.
 pub fn bounds_all(plan: &Plan, gauges: &[Gauge], into: &mut [Bound])
     requires numbered { IsNumbered plan.now.nodes }
+    requires scan { IsProjectedScan (tree_of plan.now.nodes) }
     requires gauges { length gauges.now ≡ length plan.now.nodes }
     requires room { length into.old ≡ length plan.now.nodes }
-    ensures { into.new ≡ bounds_of (tree_of plan.now.nodes) 1 gauges.now }
+    ensures { into.new ≡ bounds_of (tree_of plan.now.nodes) 1 (gauge_in gauges.now) }
 {
     let mut left = plan.nodes.len();
     while left > 0 {
@@ -32,6 +35,7 @@ fn bound_of_node(node: &Node, place: usize, gauges: &[Gauge], bounds: &[Bound]) 
             Bound { lo: size, hi: size }
         }
         Node::Project { child, .. } => bounds[*child as usize - 1],
+        _ => unreachable!(),
     }
 }
 

@@ -1,6 +1,6 @@
 //! The plan of a statement.
 ghost use Rattle.std.specs.Prelude.{◌≡◌, map, IfOk};
-ghost use Rattle.pm_plan.specs.Fits.{below, plan_over};
+ghost use Rattle.pm_cli.specs.TablePlan.{below, plan_over};
 
 use pm_plan::{Label, Node, Nodes, Plan};
 use pm_values::{Columns, Kinds, Names, TableDecl};

@@ -1,16 +1,14 @@
 //! The law of the progress numbers, and worked texts, each the contract of a function that does nothing.
-ghost use Rattle.std.specs.Prelude.{All, ◌≡◌, [], codes};
+ghost use Rattle.std.specs.Prelude.{◌≡◌, ℕ, [], ◌∷◌, codes};
 ghost use Rattle.pm_plan.specs.Worked.{numbers, numbers_decl};
 ghost use Rattle.pm_cli.specs.Answers.{table_text};
-ghost use Rattle.pm_values.specs.Table.{IsRelation};
-ghost use Rattle.pm_plan.specs.declared.plan.Plan.{Plan};
-ghost use Rattle.pm_plan.specs.Rows.{Db};
-ghost use Rattle.pm_plan.specs.Fits.{Fits};
+ghost use Rattle.pm_values.specs.Table.{Relation, IsRelation};
+ghost use Rattle.pm_cli.specs.TablePlan.{plan_over, query_over};
 ghost use Rattle.pm_cli.specs.Certified.{AreCertified};
 
-/// The numbers of every run are certified.
+/// The numbers of every run are certified: of the plan of all columns of a table, which has any place in its schema.
 pub fn numbers_are_certified()
-    ensures { (plan : Plan) (db : Db) → Fits plan db → All IsRelation db → AreCertified plan db }
+    ensures { (place : ℕ) (table : Relation) → IsRelation table → AreCertified (query_over place table.decl) (plan_over table.decl) (table ∷ []) }
 {}
 
 /// The text of three rows, and of none.

@@ -1,6 +1,7 @@
 //! The pipelines of a plan, and the estimators of a progress line.
 ghost use Rattle.std.specs.Prelude.{◌≡◌, ◌<◌, ◌≤◌, ◌-◌, ◌^◌, length, slice_get, Some, IfOk, option_map};
-ghost use Rattle.pm_plan.specs.Tree.{tree_of, IsNumbered};
+ghost use Rattle.pm_plan.specs.Preorder.{tree_of, IsNumbered};
+ghost use Rattle.pm_cli.specs.TablePlan.{IsProjectedScan};
 ghost use Rattle.pm_cli.specs.Pipelines.{pipes_of, driven};
 ghost use Rattle.pm_cli.specs.Estimates.{estimate};
 
@@ -32,9 +33,10 @@ impl Model for Pipes {
 }
 
 impl Pipes {
-    /// The pipelines of a plan.
+    /// The pipelines of a plan of a scan or of projections over one.
     pub fn of(alloc: Global, plan: &Plan) -> Result<Pipes, AllocError>
-        requires { IsNumbered plan.now.nodes }
+        requires numbered { IsNumbered plan.now.nodes }
+        requires scan { IsProjectedScan (tree_of plan.now.nodes) }
         ensures { IfOk result (λ pipes. pipes ≡ pipes_of 1 (tree_of plan.now.nodes)) }
     {
         let mut pipes = Vec::with_capacity(alloc, plan.nodes.len())?;

@@ -3,12 +3,11 @@ ghost use Rattle.std.specs.Prelude.{◌≡◌, ◌+◌, ◌<◌, ◌≤◌, ◌^
 ghost use Rattle.pm_values.specs.Table.{IsRelation};
 ghost use Rattle.pm_io.specs.Counts.{Rose};
 ghost use Rattle.pm_io.specs.Sink.{gained, GainsPart};
-ghost use Rattle.pm_plan.specs.Tree.{tree_of, IsNumbered};
-ghost use Rattle.pm_plan.specs.Fits.{Fits};
-ghost use Rattle.pm_plan.specs.Outputs.{whole_work};
-ghost use Rattle.pm_plan.specs.Moments.{counts_at};
+ghost use Rattle.pm_plan.specs.Preorder.{tree_of, IsNumbered};
+ghost use Rattle.pm_cli.specs.TablePlan.{IsTablePlan, IsProjectedScan};
+ghost use Rattle.pm_work.specs.Work.{whole_work};
+ghost use Rattle.pm_work.specs.Moments.{counts_at};
 ghost use Rattle.pm_lines.specs.Rows.{row_line};
-ghost use Rattle.pm_cli.specs.Bounds.{bounds_of};
 ghost use Rattle.pm_cli.specs.Pipelines.{pipes_of};
 ghost use Rattle.pm_cli.specs.Estimates.{shown_of, shown_at};
 ghost use Rattle.pm_cli.specs.Sums.{SumsFit};
@@ -60,6 +59,11 @@ impl<'a> Model for Run<'a> {
 
     ghost Value = { RunState };
 
+    ghost use Rattle.std.specs.Coded.{codes};
+    ghost use Rattle.pm_values.specs.contracts.condition.Cond as cond;
+
+    ghost coded = { Prim.hlevel (codes, cond.the_row.coded) };
+
     ghost use Rattle.pm_cli.specs.IsRun.{run_of, IsRun};
 
     ghost view = { run_of };
@@ -76,7 +80,7 @@ impl<'a> Run<'a> {
         db: &'a Db,
         every: Option<u64>,
     ) -> Result<Run<'a>, AllocError>
-        requires fits { Fits plan.now db.now }
+        requires fits { IsTablePlan plan.now db.now }
         requires every { IfSome every (λ n. 1 ≤ n) }
         ensures { IfOk result (λ run. run ≡ record { plan = plan.entry.now; db = db.entry.now; every = every; taken = 0; stage = Stage.Fresh }) }
     {
@@ -212,7 +216,7 @@ pub fn run_all<S: Sink>(
     every: Option<u64>,
     sink: &mut S,
 ) -> Result<(), LineBad>
-    requires fits { Fits plan.now db.now }
+    requires fits { IsTablePlan plan.now db.now }
     requires every { IfSome every (λ n. 1 ≤ n) }
     ensures whole { OnOk result (S.written sink.new ≡ gained (S.written sink.old) (run_text plan.now db.now every)) }
     ensures failed { result ≡ Err LineBad.Write → Rose (S.faults sink.old) (S.faults sink.new) }
@@ -241,6 +245,7 @@ fn write_head<S: Sink>(alloc: Global, sink: &mut S, plan: &Plan) -> Result<(), L
 /// What a progress line shows at these gauges.
 fn shown(plan: &Plan, gauges: &[Gauge], pipes: &Pipes, bounds: &mut [Bound]) -> Shown
     requires numbered { IsNumbered plan.now.nodes }
+    requires scan { IsProjectedScan (tree_of plan.now.nodes) }
     requires gauges { length gauges.now ≡ length plan.now.nodes }
     requires room { length bounds.old ≡ length plan.now.nodes }
     requires pipes { pipes.now ≡ pipes_of 1 (tree_of plan.now.nodes) }

@@ -4,7 +4,7 @@ ghost use Rattle.pm_values.specs.Table.{Relation, IsRelation};
 ghost use Rattle.pm_io.specs.declared.stand.Stand.TheVariants as stand;
 ghost use Rattle.pm_io.specs.Counts.{Rose};
 ghost use Rattle.pm_io.specs.Sink.{gained};
-ghost use Rattle.pm_plan.specs.Fits.{plan_over};
+ghost use Rattle.pm_cli.specs.TablePlan.{plan_over, query_over};
 ghost use Rattle.pm_inputs.specs.declared.refusal.Refusal.{Refusal as Refused};
 ghost use Rattle.pm_inputs.specs.Calls.{Calls, IsNoRun};
 ghost use Rattle.pm_inputs.specs.Stops.{Reaches};
@@ -39,7 +39,7 @@ pub fn monitor_main<R: Threads, F: Files, S: Sink, G: Gate>(
     ensures text { result ≡ Status.Done → IfSome (F.held files.old) (λ held. (table : Relation)
         → Calls words.now held (Ok table) → S.written out.new ≡ gained (S.written out.old) (table_text table)) }
     ensures certified { result ≡ Status.Done → IfSome (F.held files.old) (λ held. (table : Relation)
-        → Calls words.now held (Ok table) → AreCertified (plan_over table.decl) (table ∷ [])) }
+        → Calls words.now held (Ok table) → (place : ℕ) → AreCertified (query_over place table.decl) (plan_over table.decl) (table ∷ [])) }
     ensures finished { result ≡ Status.Done → IfSome (S.finished out.new) (λ finished. finished ≡ true) }
 
     // Where the files' bytes are told, the answer is what they call for, unless a setback came.

@@ -2,7 +2,8 @@
 ghost use Rattle.std.specs.Prelude.{◌≡◌, ◌<◌, ◌≤◌, ◌^◌, length, slice_get, Some, IfOk};
 ghost use Rattle.pm_values.specs.declared.value.Value.TheVariants.{Null};
 ghost use Rattle.pm_values.specs.Table.{Relation, IsRelation};
-ghost use Rattle.pm_plan.specs.Rows.{Row, cell, table_rows};
+ghost use Rattle.pm_values.specs.Row.{Row, cell};
+ghost use Rattle.pm_plan.specs.Rows.{table_rows};
 ghost use Rattle.pm_cli.specs.Left.{InPlan, IsIterOf, events_left, row_at_hand, StepsTo};
 ghost use Rattle.pm_cli.specs.Fresh.{HeadsTree, AreAll};
 
@@ -65,6 +66,7 @@ impl Iter {
                     ready: false,
                 });
             }
+            _ => unreachable!(),
         }
     }
 

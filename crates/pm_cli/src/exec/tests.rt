@@ -1,6 +1,6 @@
 //! Runs over a table of three rows, made by hand.
 ghost use Rattle.std.specs.Prelude.{◌≡◌, [], ◌∷◌, IfOk};
-ghost use Rattle.pm_plan.specs.Fits.{plan_over};
+ghost use Rattle.pm_cli.specs.TablePlan.{plan_over};
 ghost use Rattle.pm_plan.specs.Worked.{numbers, numbers_decl};
 
 use super::*;

@@ -1,8 +1,8 @@
 //! A worked example of a run's definitions, the contract of a function that does nothing.
 ghost use Rattle.std.specs.Prelude.{◌≡◌, pos, [], ◌∷◌, map};
 ghost use Rattle.pm_values.specs.declared.value.Value.TheVariants.{Int};
-ghost use Rattle.pm_plan.specs.Fits.{tree_over};
-ghost use Rattle.pm_plan.specs.Moments.{gauges_at};
+ghost use Rattle.pm_cli.specs.TablePlan.{tree_over};
+ghost use Rattle.pm_work.specs.Moments.{gauges_at};
 ghost use Rattle.pm_plan.specs.Worked.{numbers, numbers_decl};
 ghost use Rattle.pm_cli.specs.Ticks.{tick_at, events_of, whole_work_of, HasRootRow, last_row};
 ghost use Rattle.pm_cli.specs.NumbersRun.{numbers_run};

@@ -1,8 +1,8 @@
 use Rattle.std.proofs.Common.{ℕ, ◌+◌, ◌++◌, Ok, ap, ◌∙◌, arith, append_assoc}
 use Rattle.pm_io.specs.Sink.{gained}
 use Rattle.pm_io.proofs.Outside.{gained-gained}
-use Rattle.pm_plan.specs.Tree.{tree_of}
-use Rattle.pm_plan.specs.Outputs.{whole_work}
+use Rattle.pm_plan.specs.Preorder.{tree_of}
+use Rattle.pm_work.specs.Work.{whole_work}
 use Rattle.pm_cli.specs.RunState.{RunState}
 use Rattle.pm_cli.specs.Text.{head_text, lines_until, event_lines, end_text}
 use Rattle.pm_cli.proofs.Turns.{goes-on, lines-next}

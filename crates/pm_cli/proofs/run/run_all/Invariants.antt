@@ -1,7 +1,7 @@
 use Rattle.std.proofs.Common.{◌≡◌, ◌-◌, ◌≤◌, ◌++◌}
 use Rattle.pm_io.specs.Sink.{gained}
-use Rattle.pm_plan.specs.Tree.{tree_of}
-use Rattle.pm_plan.specs.Outputs.{whole_work}
+use Rattle.pm_plan.specs.Preorder.{tree_of}
+use Rattle.pm_work.specs.Work.{whole_work}
 use Rattle.pm_cli.specs.declared.run.Stage.TheVariants.{Going}
 use Rattle.pm_cli.specs.Text.{head_text, lines_until}
 use Rattle.pm_cli.proofs.run.run_all.Given as goal

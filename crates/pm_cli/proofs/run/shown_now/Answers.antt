@@ -1,5 +1,6 @@
 use Rattle.std.proofs.Common.{◌≡◌, length, subst, sym, ap, ◌∙◌}
-use Rattle.pm_plan.specs.Tree.{tree_of, IsNumbered}
+use Rattle.pm_plan.specs.Preorder.{tree_of, IsNumbered}
+use Rattle.pm_cli.specs.TablePlan.{IsProjectedScan}
 use Rattle.pm_cli.specs.Sums.{SumsFit}
 use Rattle.pm_cli.specs.Estimates.{shown_of, shown_at}
 use Rattle.pm_cli.proofs.UnderPlan.{IsMoment, at_moment}
@@ -12,6 +13,7 @@ shown-requires c =
     let m : IsMoment run.plan run.db run.taken = at_moment run.plan run.db run.taken g.fits g.declared g.within in
     record {
       numbered = subst (λ p. IsNumbered p.nodes) (sym c.requires.plan) m.numbered;
+      scan = subst (λ p. IsProjectedScan (tree_of p.nodes)) (sym c.requires.plan) m.scan;
       gauges = ap length g.gauges ∙ m.nodes ∙ ap (λ p. length p.nodes) (sym c.requires.plan);
       room = c.requires.room;
       pipes = c.requires.pipes;

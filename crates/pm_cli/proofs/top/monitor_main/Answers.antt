@@ -3,7 +3,8 @@ use Rattle.pm_io.specs.Sink.{gained}
 use Rattle.pm_values.specs.Table.{IsRelation}
 use Rattle.pm_cli.specs.declared.status.Status.TheVariants as status
 use Rattle.pm_cli.specs.Answers.{Explains, IsAnswerTo, IsSetback, table_text}
-use Rattle.pm_cli.proofs.TopCall.{where-told, told-always, same-table, table-certified, run-answers, run-explains, run-ends, no-refusal, refusal-answers, refusal-explains, refusal-wants, refused-line, called-line}
+use Rattle.pm_cli.proofs.Certain.{certified}
+use Rattle.pm_cli.proofs.TopCall.{where-told, told-always, same-table, run-answers, run-explains, run-ends, no-refusal, refusal-answers, refusal-explains, refusal-wants, refused-line, called-line}
 use Rattle.pm_cli.proofs.top.monitor_main.Goals as goal
 
 pub returns-in-Ok-clause-text : goal.returns-in-Ok-clause-text
@@ -17,8 +18,8 @@ returns-in-Ok-clause-text g c = λ done.
 pub returns-in-Ok-clause-certified : goal.returns-in-Ok-clause-certified
 returns-in-Ok-clause-certified g c = λ done.
     where-told (g.F.Files.held c.args.files.now)
-    (λ held only table calls.
-    table-certified table (subst IsRelation (same-table c.in-Ok.table table (only (Ok table) calls)) (c.run_table.ensures.certified done)))
+    (λ held only table calls place.
+    certified place table (subst IsRelation (same-table c.in-Ok.table table (only (Ok table) calls)) (c.run_table.ensures.certified done)))
     c.in-Ok.ensures.only
 
 pub returns-in-Ok-clause-only : goal.returns-in-Ok-clause-only

@@ -25,7 +25,7 @@ returns-in_err-write_whole-clause-part g c =
     let old = written c.args.sink.now in
     let mid = written c.loop-place.sink in
     let new = written c.write_whole.new.sink in
-    let line : c.as_slice.result.now ≡ node_line (i + 1) x = c.as_slice.ensures.value ∙ c.in_ok-line.ensures in
+    let line : c.bytes.result.now ≡ node_line (i + 1) x = c.bytes.ensures.value ∙ c.in_ok-line.ensures in
     let there : x ≡ get_or nodes i x = subst (λ xs. x ≡ get_or xs i x) c.as_slice-node-items.ensures c.node-item.is in
     let within : i < length nodes = subst (λ xs. i < length xs) c.as_slice-node-items.ensures c.loop-place-test.true in
     let part : GainsPart mid new (node_line (i + 1) x) = subst (GainsPart mid new) line c.in_err-write_whole.ensures.part in
@@ -41,7 +41,7 @@ loop-place-preserved g c =
     let i = c.loop-place.place in
     let x = c.node-item.result in
     let old = written c.args.sink.now in
-    let line : c.as_slice.result.now ≡ node_line (i + 1) x = c.as_slice.ensures.value ∙ c.in_ok-line.ensures in
+    let line : c.bytes.result.now ≡ node_line (i + 1) x = c.bytes.ensures.value ∙ c.in_ok-line.ensures in
     let there : x ≡ get_or nodes i x = subst (λ xs. x ≡ get_or xs i x) c.as_slice-node-items.ensures c.node-item.is in
     let within : i < length nodes = subst (λ xs. i < length xs) c.as_slice-node-items.ensures c.loop-place-test.true in
     record {

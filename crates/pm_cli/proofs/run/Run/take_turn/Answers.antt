@@ -2,8 +2,8 @@ use Rattle.std.proofs.Common.{◌≡◌, ◌+◌, ◌≤◌, ◌++◌, get_or, s
 use Rattle.pm_io.specs.Sink.{gained, GainsPart}
 use Rattle.pm_io.proofs.Outside.{gained-gained}
 use Rattle.pm_io.proofs.Parts.{on_err, part_first, part_later}
-use Rattle.pm_plan.specs.Tree.{tree_of}
-use Rattle.pm_plan.specs.Outputs.{whole_work}
+use Rattle.pm_plan.specs.Preorder.{tree_of}
+use Rattle.pm_work.specs.Work.{whole_work}
 use Rattle.pm_lines.specs.Progress.{end_line}
 use Rattle.pm_plan.specs.declared.gauge.Gauge.{Gauge}
 use Rattle.pm_cli.specs.declared.exec.iter.Tick.{Tick}

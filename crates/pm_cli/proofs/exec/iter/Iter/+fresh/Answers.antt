@@ -1,7 +1,11 @@
 use Rattle.std.proofs.Common.{ap, ◌∙◌, zero-le, arith}
 use Rattle.std.specs.Prelude.{Some}
-use Rattle.pm_cli.proofs.Headed.{scan_table, scan_all, project_child, project_all}
+use Rattle.pm_cli.proofs.Headed.{scan_or_project, scan_table, scan_all, project_child, project_all}
 use Rattle.pm_cli.proofs.exec.iter.Iter.+fresh.Goals as goal
+
+pub unreachable-requires : goal.unreachable-requires
+unreachable-requires t c =
+    scan_or_project c.args.db.now c.args.plan.now.nodes c.args.n c.at.result.now c.at.ensures c.requires.heads c.in_default.not-Scan c.in_default.not-Project
 
 pub overflow_add-n : goal.overflow_add-n
 overflow_add-n t c =

@@ -1,0 +1,62 @@
+-- the sums of the lists of gauges and bounds are those of the tree's nodes
+use Rattle.std.proofs.Common.{◌≡◌, ℕ, suc, ◌+◌, List, [], ◌∷◌, length, get_or, ap, ◌∙◌, subst, sym, arith}
+use Rattle.std.specs.Prelude.{sum_by}
+use Rattle.std.proofs.lemmas.List.Sums.{sum_by-cons}
+use Rattle.pm_plan.specs.declared.gauge.Gauge.{Gauge}
+use Rattle.pm_plan.specs.declared.gauge.Bound.{Bound}
+use Rattle.pm_plan.specs.declared.gauge.Whole.{Whole}
+use Rattle.pm_plan.specs.Tree.{Tree, Seek, Scan, Project, size, total}
+use Rattle.pm_work.specs.Moments.{Gauges, gauge_in}
+use Rattle.pm_bounds.specs.Bounds.{lo, hi, lo_of_seek, hi_of_seek, bound_of, bounds_of, work_done, lo_whole, hi_whole}
+use Rattle.pm_cli.specs.TablePlan.{IsProjectedScan}
+use Rattle.pm_cli.specs.Bounds.{work_of, lo_of, hi_of, whole_of}
+
+abbrev zeros : Gauge
+zeros = record { handed = 0; settled = 0; worst = 0; size = 0 }
+
+abbrev handed_in : Gauges → Tree → ℕ → ℕ
+handed_in G t n = total (λ u m. (G m).handed) (λ left seek m. (G (m + 1 + size left)).handed) t n
+
+-- the list has the gauges of the nodes from n on
+work-total : (t : Tree) (n : ℕ) (G : Gauges) (gauges : List Gauge) → IsProjectedScan t → length gauges ≡ size t
+    → ((k : ℕ) → G (n + k) ≡ get_or gauges k zeros) → work_of gauges ≡ handed_in G t n
+work-total (Scan table label) n G [] p long at = absurd (omega arith)
+work-total (Scan table label) n G (g ∷ []) p long at =
+    let here : G n ≡ g = subst (λ m. G m ≡ g) (omega arith) (at 0) in
+    omega (arith, ap (λ x. x.handed) here)
+work-total (Scan table label) n G (g ∷ h ∷ gauges) p long at = absurd (omega arith)
+work-total (Project child columns) n G [] p long at = absurd (omega arith)
+work-total (Project child columns) n G (g ∷ gauges) p long at =
+    let here : G n ≡ g = subst (λ m. G m ≡ g) (omega arith) (at 0) in
+    let later : (k : ℕ) → G (n + 1 + k) ≡ get_or gauges k zeros = λ k. subst (λ m. G m ≡ get_or gauges k zeros) (omega arith) (at (suc k)) in
+    let deep : work_of gauges ≡ handed_in G child (n + 1) = work-total child (n + 1) G gauges p (omega arith) later in
+    omega (arith, sum_by-cons (λ (x : Gauge). x.handed) g gauges, ap (λ x. x.handed) here, deep)
+work-total _ n G gauges p long at = absurd p
+
+lo-total : (t : Tree) (n : ℕ) (G : Gauges) → IsProjectedScan t
+    → lo_of (bounds_of t n G) ≡ total (λ u m. lo u m G) (λ left seek m. lo_of_seek left seek m G) t n
+lo-total (Scan table label) n G p = omega arith
+lo-total (Project child columns) n G p =
+    omega (arith, sum_by-cons (λ (b : Bound). b.lo) (bound_of (Project child columns) n G) (bounds_of child (n + 1) G), lo-total child (n + 1) G p)
+lo-total _ n G p = absurd p
+
+hi-total : (t : Tree) (n : ℕ) (G : Gauges) → IsProjectedScan t
+    → hi_of (bounds_of t n G) ≡ total (λ u m. hi u m G) (λ left seek m. hi_of_seek left seek m G) t n
+hi-total (Scan table label) n G p = omega arith
+hi-total (Project child columns) n G p =
+    omega (arith, sum_by-cons (λ (b : Bound). b.hi) (bound_of (Project child columns) n G) (bounds_of child (n + 1) G), hi-total child (n + 1) G p)
+hi-total _ n G p = absurd p
+
+-- the work done and the bounds of the whole work
+pub whole-sums : (t : Tree) (gauges : List Gauge) → IsProjectedScan t → length gauges ≡ size t
+    → whole_of gauges (bounds_of t 1 (gauge_in gauges))
+    ≡ record { work = work_done t (gauge_in gauges); lo = lo_whole t (gauge_in gauges); hi = hi_whole t (gauge_in gauges) }
+whole-sums t gauges p long =
+    let G : Gauges = gauge_in gauges in
+    let at : (k : ℕ) → G (1 + k) ≡ get_or gauges k zeros = λ k. ap (λ i. get_or gauges i zeros) (omega arith) in
+    let work : work_of gauges ≡ work_done t G = work-total t 1 G gauges p long at in
+    let below : lo_of (bounds_of t 1 G) ≡ lo_whole t G = lo-total t 1 G p in
+    let above : hi_of (bounds_of t 1 G) ≡ hi_whole t G = hi-total t 1 G p in
+    ap (λ w. let x : Whole = record { work = w; lo = lo_of (bounds_of t 1 G); hi = hi_of (bounds_of t 1 G) } in x) work
+    ∙ ap (λ b. let x : Whole = record { work = work_done t G; lo = b; hi = hi_of (bounds_of t 1 G) } in x) below
+    ∙ ap (λ b. let x : Whole = record { work = work_done t G; lo = lo_whole t G; hi = b } in x) above
