@@ -22,11 +22,13 @@ abbrev pub HasSeek : List Declaration → Tree → Type 0
 HasSeek decls (Index left seek cond) = IsSeek decls left seek
 HasSeek decls _ = Unit {0}
 
+-- a Scan or a Seek
 abbrev pub reads_table : Node → Bool
 reads_table (node.Scan table label) = true
 reads_table (node.Seek left table pairs label unique) = true
 reads_table _ = false
 
+-- there is a node, and it is a Scan
 abbrev pub scans : Option Node → Bool
 scans None = false
 scans (Some (node.Scan table label)) = true

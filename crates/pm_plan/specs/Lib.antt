@@ -12,3 +12,4 @@ pub mod Fitting
 pub mod Right
 pub mod PlanLines
 pub mod Worked
+pub mod WorkedPlan

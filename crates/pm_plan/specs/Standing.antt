@@ -58,6 +58,7 @@ side_columns side pairs = map (side_column side) pairs
 abbrev pub AgreeBelow : ℕ → List ℕ → List ℕ → Type 0
 AgreeBelow wide a b = left_part wide a ≡ left_part wide b
 
+-- what an operand is, as the code says it
 abbrev pub operand_class : OperandClass → OperandKind
 operand_class (class.Column k) = OfColumn k
 operand_class class.Null = OfNull

@@ -13,6 +13,7 @@ pub mod right;
 mod shape;
 pub mod text;
 mod uniqueness;
+pub mod worked;
 
 pub use gauge::{Bound, Gauge, Shown, Whole};
 pub use plan::{

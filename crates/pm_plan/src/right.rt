@@ -1,9 +1,9 @@
-ghost use Rattle.std.specs.Prelude.{◌≡◌, ◌↔◌, ◌+◌, ◌-◌, ◌<◌, ◌^◌, ℕ, IsTrue, true, List, [], take, nat_lt, length, map, min, count_by, slice_get, Some};
+ghost use Rattle.std.specs.Prelude.{◌≡◌, ◌↔◌, ◌+◌, ◌-◌, ◌<◌, ◌^◌, ℕ, IsTrue, true, false, List, [], take, nat_lt, length, max, min, count_by, slice_get, Some};
 ghost use Rattle.std.specs.List.{list_all};
 ghost use Rattle.pm_plan.specs.Tree.{Tree, Seek};
 ghost use Rattle.pm_plan.specs.Preorder.{Piece, Heads, seek_node};
 ghost use Rattle.pm_plan.specs.Kinds.{kinds_of, width, item_fits};
-ghost use Rattle.pm_plan.specs.Right.{IsTable, IsJoin, IsOrdered, IsSeek, IsOperator, AreOperators, IsRight, are_below, has_group};
+ghost use Rattle.pm_plan.specs.Right.{IsTable, IsJoin, IsOrdered, IsSeek, IsOperator, AreOperators, IsRight, are_below, has_block, has_group};
 ghost use Rattle.pm_plan.specs.Standing.{Stands, piece_kinds};
 ghost use Rattle.pm_plan.specs.Fitting.{IsPaired, HasSeek, AreBelow, reads_table};
 
@@ -144,6 +144,15 @@ fn is_right_seek(nodes: &[Node], decls: &TableDecls, left: usize, seek: usize) -
     }
 }
 
+// Whether the left side and the Seek of the Index of this number are right.
+fn is_sought(nodes: &[Node], decls: &TableDecls, n: usize, seek: u32) -> bool
+    requires { n < 2 ^ 63 }
+    ensures { (l : Tree) (s : Seek) → Heads nodes.now l (n + 1) → slice_get nodes.now (max (n + 1) seek - 1) ≡ Some (seek_node s (n + 1))
+        → (IsTrue result ↔ ((has_block l ≡ false) × IsSeek decls.now l s)) }
+{
+    !has_block(nodes, n + 1) && is_right_seek(nodes, decls, n + 1, behind(n, seek))
+}
+
 // Whether the root of the tree of this number is right, with its Seek where it is an Index.
 fn is_operator(nodes: &[Node], decls: &TableDecls, n: usize) -> bool
     ensures { (t : Tree) → Heads nodes.now t n → (IsTrue result ↔ (IsOperator decls.now t × HasSeek decls.now t)) }
@@ -165,14 +174,8 @@ fn is_operator(nodes: &[Node], decls: &TableDecls, n: usize) -> bool
             unique,
             ..
         } => {
-            is_join(
-                nodes,
-                decls,
-                n + 1,
-                behind(n, *right),
-                pairs.as_slice(),
-                *unique,
-            )
+            let other = behind(n, *right);
+            is_join(nodes, decls, n + 1, other, pairs.as_slice(), *unique)
         }
         Node::Merge {
             right,
@@ -185,10 +188,7 @@ fn is_operator(nodes: &[Node], decls: &TableDecls, n: usize) -> bool
                 && is_ordered(nodes, decls, n + 1, other, pairs.as_slice())
         }
         Node::Index { seek, cond, .. } => {
-            if !condition_fits_if(nodes, decls, n, cond) {
-                return false;
-            }
-            !has_block(nodes, n + 1) && is_right_seek(nodes, decls, n + 1, behind(n, *seek))
+            condition_fits_if(nodes, decls, n, cond) && is_sought(nodes, decls, n, *seek)
         }
         Node::Seek { .. } => false,
     }

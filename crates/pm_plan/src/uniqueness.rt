@@ -96,7 +96,8 @@ pub fn is_unique_at(
             is_key_among(decls, *table, pairs, side)
         }
         Node::Filter { .. } | Node::Sort { .. } => is_unique_at(nodes, decls, n + 1, pairs, side),
-        Node::Project { .. } | Node::Group { .. } => false,
+        Node::Project { .. } => false,
+        Node::Group { .. } => false,
         Node::Hash {
             right,
             pairs: own,

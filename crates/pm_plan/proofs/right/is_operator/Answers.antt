@@ -1,4 +1,4 @@
-use Rattle.std.proofs.Common.{◌≡◌, ◌+◌, ◌-◌, false, ap, sym, ◌∙◌, subst, slice_get, Some, arith}
+use Rattle.std.proofs.Common.{◌≡◌, ◌+◌, ◌-◌, max, ap, sym, ◌∙◌, subst, slice_get, Some, arith}
 use Rattle.std.proofs.lemmas.Bool.{false≢true}
 use Rattle.std.proofs.lemmas.List.Folds.{list_all-map}
 use Rattle.std.specs.Prelude.{nat_lt}
@@ -37,23 +37,22 @@ returns-in-Sort c =
     ∙ sym (list_all-map (λ k. nat_lt k wide) (λ key. key.column) c.in-Sort.keys) in
     root_is decls t (Sort i.tree c.in-Sort.keys) c.keys_below.result (whole_is _ _ i.is) (λ yes. (sym fit ∙ yes, tt)) (λ is. fit ∙ is.0)
 
-pub returns-then-not-condition_fits_if : goal.returns-then-not-condition_fits_if
-returns-then-not-condition_fits_if c =
+pub returns-then-condition_fits_if : goal.returns-then-condition_fits_if
+returns-then-condition_fits_if c =
     λ t h. let decls = c.args.decls.now in
     let i : OverSeek _ _ _ (λ l s. Index l s c.in-Index.cond) _ _ = begins c.args.nodes.now (Whole t) c.args.n (node.Index _ _ _) (found_is c.in-Some.ensures.node c.in-Index.is) h in
-    let fit = c.condition_fits_if.ensures (Whole t) h in
-    let kinds = ap (piece_kinds decls) i.is in
-    root_is decls t (Index i.left_tree i.sought c.in-Index.cond) false (whole_is _ _ i.is) (λ no_test. absurd (false≢true no_test))
-    (λ is. absurd (false≢true (sym c.if-not-condition_fits_if.true ∙ fit ∙ ap (λ k. condition_fits_if k c.in-Index.cond) kinds ∙ is.0.0)))
+    let kinds = ap (λ p. condition_fits_if (piece_kinds decls p) c.in-Index.cond) i.is in
+    let fit = sym kinds ∙ sym (c.condition_fits_if.ensures (Whole t) h) ∙ c.if-condition_fits_if.true in
+    let at : c.args.n + size i.left_tree ≡ max (c.args.n + 1) c.in-Index.seek - 1 = omega (arith, i.seek_is) in
+    let sides = c.is_sought.ensures i.left_tree i.sought i.left_heads (subst (λ m. slice_get c.args.nodes.now m ≡ Some (seek_node i.sought (c.args.n + 1))) at i.seek_at) in
+    root_is decls t (Index i.left_tree i.sought c.in-Index.cond) c.is_sought.result (whole_is _ _ i.is)
+    (λ yes. let both = sides.0 yes in ((fit, both.0), both.1)) (λ is. sides.1 (is.0.1, is.1))
 
-pub returns-then-not-has_block : goal.returns-then-not-has_block
-returns-then-not-has_block c =
+pub returns-else-condition_fits_if : goal.returns-else-condition_fits_if
+returns-else-condition_fits_if c =
     λ t h. let decls = c.args.decls.now in
     let i : OverSeek _ _ _ (λ l s. Index l s c.in-Index.cond) _ _ = begins c.args.nodes.now (Whole t) c.args.n (node.Index _ _ _) (found_is c.in-Some.ensures.node c.in-Index.is) h in
-    let fit = c.condition_fits_if.ensures (Whole t) h in
-    let kinds = ap (piece_kinds decls) i.is in
-    let at : c.args.n + size i.left_tree ≡ c.behind-then-not-has_block.result - 1 = omega (arith, i.seek_is, c.behind-then-not-has_block.ensures) in
-    let seek = c.is_right_seek.ensures i.left_tree i.sought (c.args.n + 1) i.left_heads (subst (λ m. slice_get c.args.nodes.now m ≡ Some (seek_node i.sought (c.args.n + 1))) at i.seek_at) in
-    let yes_fit = sym (ap (λ k. condition_fits_if k c.in-Index.cond) kinds) ∙ sym fit ∙ c.if-not-condition_fits_if.false in
-    let opens = sym (c.has_block.ensures i.left_tree i.left_heads) ∙ c.if-not-has_block.true in
-    root_is decls t (Index i.left_tree i.sought c.in-Index.cond) c.is_right_seek.result (whole_is _ _ i.is) (λ yes. ((yes_fit, opens), seek.0 yes)) (λ is. seek.1 is.1)
+    let kinds = ap (λ p. condition_fits_if (piece_kinds decls p) c.in-Index.cond) i.is in
+    let fit = c.condition_fits_if.ensures (Whole t) h ∙ kinds in
+    root_is decls t (Index i.left_tree i.sought c.in-Index.cond) c.condition_fits_if.result (whole_is _ _ i.is)
+    (λ yes. absurd (false≢true (sym c.if-condition_fits_if.false ∙ yes))) (λ is. fit ∙ is.0.0)

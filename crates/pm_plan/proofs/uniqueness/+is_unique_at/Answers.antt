@@ -1,4 +1,4 @@
-use Rattle.std.proofs.Common.{◌≡◌, ◌+◌, ◌-◌, ◌&&◌, true, false, length, sym, ap, ◌∙◌, subst, arith, length-append, slice_get, Some}
+use Rattle.std.proofs.Common.{inl, inr, ◌≡◌, ◌+◌, ◌-◌, ◌&&◌, true, false, length, sym, ap, ◌∙◌, subst, arith, length-append, slice_get, Some}
 use Rattle.std.proofs.lemmas.List.{length-map}
 use Rattle.pm_plan.specs.Preorder.{Whole, Heads, seek_node}
 use Rattle.pm_plan.specs.Kinds.{kinds_of, table_kinds, columns_of, width}
@@ -13,10 +13,10 @@ pub returns-in_default : goal.returns-in_default
 returns-in_default t c = λ p columns h same. absurd (none_stands _ p _ c.in_default.ensures.node h)
 
 pub returns-in-Project : goal.returns-in-Project
-returns-in-Project t c = λ p columns h same. not_unique _ p _ _ c.args.decls.now columns c.in-Project.is c.in-Some.ensures.node h
+returns-in-Project t c = λ p columns h same. not_unique _ p _ _ c.args.decls.now columns (inl (c.in-Project.child, c.in-Project.columns, c.in-Project.is)) c.in-Some.ensures.node h
 
-pub returns-in-Project-2 : goal.returns-in-Project-2
-returns-in-Project-2 t c = λ p columns h same. not_unique _ p _ _ c.args.decls.now columns c.in-Project.is c.in-Some.ensures.node h
+pub returns-in-Group : goal.returns-in-Group
+returns-in-Group t c = λ p columns h same. not_unique _ p _ _ c.args.decls.now columns (inr (c.in-Group.child, c.in-Group.keys, c.in-Group.items, c.in-Group.is)) c.in-Some.ensures.node h
 
 pub returns-in-Scan : goal.returns-in-Scan
 returns-in-Scan t c =
