@@ -2,7 +2,7 @@
 use Rattle.std.proofs.Common.{◌≡◌, ℕ, ◌+◌, ◌*◌, ◌<◌, ◌≤◌, ◌^◌, cond, None, Some, [], ◌∷◌, refl, sym, subst, ◌∙◌, arith, inl, inr}
 use Rattle.std.proofs.lemmas.Bool.{cases_Bool}
 use Rattle.std.proofs.lemmas.List.Elements.{All-from_recursion}
-use Rattle.std.specs.Prelude.{All, nat_lt}
+use Rattle.std.specs.Prelude.{nat_lt}
 use Rattle.pm_fraction.specs.Root.{root}
 use Rattle.pm_values.specs.Table.{Relation, IsRelation}
 use Rattle.pm_plan.specs.declared.gauge.Shown.{Shown}

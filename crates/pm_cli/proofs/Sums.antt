@@ -1,11 +1,10 @@
 -- the sums of the lists of gauges and bounds are those of the tree's nodes
-use Rattle.std.proofs.Common.{◌≡◌, ℕ, suc, ◌+◌, List, [], ◌∷◌, length, get_or, ap, ◌∙◌, subst, sym, arith}
-use Rattle.std.specs.Prelude.{sum_by}
+use Rattle.std.proofs.Common.{◌≡◌, ℕ, suc, ◌+◌, List, [], ◌∷◌, length, get_or, ap, ◌∙◌, subst, arith}
 use Rattle.std.proofs.lemmas.List.Sums.{sum_by-cons}
 use Rattle.pm_plan.specs.declared.gauge.Gauge.{Gauge}
 use Rattle.pm_plan.specs.declared.gauge.Bound.{Bound}
 use Rattle.pm_plan.specs.declared.gauge.Whole.{Whole}
-use Rattle.pm_plan.specs.Tree.{Tree, Seek, Scan, Project, size, total}
+use Rattle.pm_plan.specs.Tree.{Tree, Scan, Project, size, total}
 use Rattle.pm_work.specs.Moments.{Gauges, gauge_in}
 use Rattle.pm_bounds.specs.Bounds.{lo, hi, lo_of_seek, hi_of_seek, bound_of, bounds_of, work_done, lo_whole, hi_whole}
 use Rattle.pm_cli.specs.TablePlan.{IsProjectedScan}

@@ -1,7 +1,6 @@
 -- the rows of the plan of all columns of a table are the table's rows, and those of its query
 use Rattle.std.proofs.Common.{◌≡◌, ℕ, zero, suc, ◌<◌, ◌≤◌, List, [], ◌∷◌, ◌++◌, length, map, take, refl, sym, ap, ◌∙◌, arith}
 use Rattle.std.proofs.lemmas.List.{map-append, append-nil}
-use Rattle.std.proofs.lemmas.Option.{unwrap_or-slice_get}
 use Rattle.std.proofs.Math.Seq.{take-length, take-suc}
 use Rattle.std.specs.List.{AllByRecursion, filter}
 use Rattle.pm_values.specs.declared.value.Value.TheVariants.{Null}

@@ -1,7 +1,7 @@
 -- the answer of the top call, from how loading ended
-use Rattle.std.proofs.Common.{◌≡◌, ◌≢◌, [], ◌∷◌, List, ℕ, Option, Some, None, Result, Ok, Err, refl, sym, ap, subst, ◌⊎◌, inl, inr}
+use Rattle.std.proofs.Common.{◌≡◌, ◌≢◌, List, ℕ, Option, Some, None, Result, Ok, Err, refl, sym, ap, subst, ◌⊎◌, inl, inr}
 use Rattle.std.specs.Prelude.{IfSome, IsErrOf}
-use Rattle.pm_values.specs.Table.{Relation, IsRelation}
+use Rattle.pm_values.specs.Table.{Relation}
 use Rattle.pm_inputs.specs.declared.refusal.Refusal.{Refusal}
 use Rattle.pm_inputs.specs.declared.refusal.Refusal.TheVariants as refusal
 use Rattle.pm_inputs.specs.Calls.{Calls, IfAnswered}

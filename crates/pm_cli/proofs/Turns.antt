@@ -6,7 +6,7 @@ use Rattle.std.proofs.lemmas.List.{take_all}
 use Rattle.pm_plan.specs.declared.gauge.Gauge.{Gauge}
 use Rattle.pm_plan.specs.declared.plan.Plan.{Plan}
 use Rattle.pm_plan.specs.Rows.{Db}
-use Rattle.pm_plan.specs.Tree.{Tree, Scan, Project}
+use Rattle.pm_plan.specs.Tree.{Tree, Scan}
 use Rattle.pm_plan.specs.Preorder.{tree_of}
 use Rattle.pm_plan.specs.Outputs.{output}
 use Rattle.pm_work.specs.Work.{whole_work}
