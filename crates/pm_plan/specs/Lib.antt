@@ -7,6 +7,8 @@ pub mod Preorder
 pub mod Outputs
 pub mod Kinds
 pub mod Unique
+pub mod Standing
+pub mod Fitting
 pub mod Right
 pub mod PlanLines
 pub mod Worked

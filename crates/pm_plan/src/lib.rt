@@ -3,10 +3,15 @@
 //! `check_plan` says whether a plan is right for the tables that are declared.
 #![tactic(auto)]
 
+mod fits;
 pub mod gauge;
+mod kinds;
 pub mod laws;
+mod numbering;
 pub mod plan;
+mod shape;
 pub mod text;
+mod uniqueness;
 
 pub use gauge::{Bound, Gauge, Shown, Whole};
 pub use plan::{
