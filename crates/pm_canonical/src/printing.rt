@@ -6,8 +6,7 @@ use crate::numerals::put_number;
 use crate::words::{comparison_word, put_column, put_expr};
 use pm_lexer::{put_name, put_quoted};
 use pm_syntax::{
-    Atom, ColumnName, Item, Items, Literal, Literals, OrderItem, PlacedName, Select,
-    Source, Test,
+    Atom, ColumnName, Item, Items, Literal, Literals, OrderItem, PlacedName, Select, Source, Test,
 };
 use pm_values::{Comparison, Txt};
 use std::alloc::{AllocError, Global};

@@ -13,8 +13,8 @@ use crate::fault::SynBad;
 use crate::lists::list;
 use crate::terminals::{behind, comparison, is, optional, place, sees, token};
 use crate::tree::{Atom, Literals, Test, Tests};
-use pm_values::Comparison;
 use pm_lexer::{Symbol, Token};
+use pm_values::Comparison;
 use sqlite_items::Boxed;
 use std::alloc::Global;
 

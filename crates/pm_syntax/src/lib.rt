@@ -18,6 +18,6 @@ pub mod worked;
 pub use fault::SynBad;
 pub use statement::{answers_once, parse};
 pub use tree::{
-    Atom, ColumnName, ColumnNames, Expr, Func, Item, Items, Literal, Literals,
-    OrderItem, OrderItems, PlacedName, Select, SelectItems, Source, Sources, Test, Tests,
+    Atom, ColumnName, ColumnNames, Expr, Func, Item, Items, Literal, Literals, OrderItem,
+    OrderItems, PlacedName, Select, SelectItems, Source, Sources, Test, Tests,
 };

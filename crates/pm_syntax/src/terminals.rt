@@ -9,8 +9,8 @@ ghost use Rattle.pm_syntax.specs.Reading.{Gives, optional_at, name_at};
 
 use crate::fault::SynBad;
 use crate::tree::{Func, PlacedName};
-use pm_values::Comparison;
 use pm_lexer::{Symbol, Token, TokenKind, content};
+use pm_values::Comparison;
 use std::alloc::Global;
 
 // Whether a token is this symbol.
