@@ -16,3 +16,7 @@ pub mod Uniqueness
 pub mod LeftOrder
 pub mod Flags
 pub mod FirstBounds
+pub mod RowKinds
+pub mod Readability
+pub mod Summable
+pub mod Evaluating
