@@ -19,4 +19,5 @@ pub mod FirstBounds
 pub mod RowKinds
 pub mod Readability
 pub mod Summable
+pub mod Adding
 pub mod Evaluating

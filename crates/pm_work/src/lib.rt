@@ -3,7 +3,10 @@
 #![tactic(auto)]
 
 mod evaluation;
+pub mod declared;
 pub mod laws;
+
 pub mod worked;
 
 pub use evaluation::count_whole;
+pub use declared::tables_are_declared;

@@ -3,7 +3,7 @@ ghost use Rattle.pm_values.specs.declared.value.Value.TheVariants.{Null};
 ghost use Rattle.pm_values.specs.Row.{cell};
 ghost use Rattle.pm_values.specs.Equality.{is_null};
 ghost use Rattle.pm_plan.specs.Grouping.{aggregate_of, column_values, folded, greater, lesser, plus};
-ghost use Rattle.pm_work.specs.Evaluation.{IsSmall, IsSummable};
+ghost use Rattle.pm_work.specs.Evaluation.{IsSmall, IsSummable, PlusFits};
 
 use crate::evaluation::rows::cell;
 use pm_plan::Aggregate;
@@ -87,6 +87,20 @@ fn greatest<'a>(column: u32, rows: &'a [Row], null: &'a Value) -> &'a Value
     found
 }
 
+/// The sum of two values, to which NULL adds nothing.
+fn plus(a: &Value, b: Value) -> Value
+    requires { PlusFits a.now b }
+    ensures { result ≡ plus a.now b }
+{
+    if let Value::Int(m) = a {
+        if let Value::Int(n) = &b {
+            return Value::Int(*m + *n);
+        }
+        return Value::Int(*m);
+    }
+    b
+}
+
 /// The sum of the column's numbers, and NULL where there is none.
 fn sum(column: u32, rows: &[Row]) -> Value
     requires { All (λ row. IsSmall (cell row column)) rows.now }
@@ -97,12 +111,7 @@ fn sum(column: u32, rows: &[Row]) -> Value
     let mut left = rows.len();
     while left > 0 {
         left -= 1;
-        if let Value::Int(n) = cell(&rows[left], column, &null) {
-            found = match found {
-                Value::Int(m) => Value::Int(*n + m),
-                _ => Value::Int(*n),
-            };
-        }
+        found = plus(cell(&rows[left], column, &null), found);
     }
     found
 }

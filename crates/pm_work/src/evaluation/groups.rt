@@ -84,21 +84,30 @@ fn group_row(alloc: Global, keys: &[u32], items: &[Aggregate], rows: &[Row], key
     Ok(row)
 }
 
+/// The row of each of these keys.
+fn group_rows(alloc: Global, keys: &[u32], items: &[Aggregate], rows: &[Row], found: &[Row]) -> Result<Vec<Row>, AllocError>
+    requires { All (IsSummable rows.now) items.now }
+    ensures { IfOk result (λ groups. groups.items ≡ map (group_row keys.now items.now rows.now) found.now) }
+{
+    let mut groups = Vec::new(alloc);
+    for key in found {
+        groups.push(group_row(alloc, keys, items, rows, key)?)?;
+    }
+    Ok(groups)
+}
+
 /// One row for each different key, and exactly one where there are no keys.
 pub fn grouped(alloc: Global, keys: &[u32], items: &[Aggregate], rows: &[Row]) -> Result<Vec<Row>, AllocError>
     requires { All (IsSummable rows.now) items.now }
     ensures { IfOk result (λ groups. groups.items ≡ grouped keys.now items.now rows.now) }
 {
-    let mut groups = Vec::new(alloc);
     if keys.is_empty() {
         let mut row = Row::new(alloc);
         put_aggregates(alloc, &mut row, items, rows)?;
+        let mut groups = Vec::new(alloc);
         groups.push(row)?;
         return Ok(groups);
     }
     let found = different_keys(alloc, keys, rows)?;
-    for key in &found {
-        groups.push(group_row(alloc, keys, items, rows, key)?)?;
-    }
-    Ok(groups)
+    group_rows(alloc, keys, items, rows, found.as_slice())
 }

@@ -52,6 +52,15 @@ pub fn copied(alloc: Global, rows: &[Row]) -> Result<Vec<Row>, AllocError>
     Ok(copy)
 }
 
+/// Whether the condition is true on the row.
+fn is_kept(cond: &Cond, row: &Row) -> bool
+    requires few { length row.now < 2 ^ 32 }
+    requires readable { IsReadable (length row.now) cond.now }
+    ensures { result ≡ keeps cond.now row.now }
+{
+    matches!(cond.eval(row), Truth::Yes)
+}
+
 /// The rows on which the condition is true.
 pub fn kept(alloc: Global, cond: &Cond, rows: &[Row]) -> Result<Vec<Row>, AllocError>
     requires { All (λ row. (length row < 2 ^ 32) × IsReadable (length row) cond.now) rows.now }
@@ -59,7 +68,7 @@ pub fn kept(alloc: Global, cond: &Cond, rows: &[Row]) -> Result<Vec<Row>, AllocE
 {
     let mut kept = Vec::new(alloc);
     for row in rows {
-        if cond.eval(row) == Truth::Yes {
+        if is_kept(cond, row) {
             kept.push(copy_row(alloc, row)?)?;
         }
     }
