@@ -12,7 +12,7 @@ use std::alloc::{AllocError, Global};
 use std::cmp::Ordering;
 
 /// Whether two rows have equal values, NULLs as one value.
-fn same_values(a: &Row, b: &Row) -> bool
+pub fn same_values(a: &Row, b: &Row) -> bool
     ensures { result ≡ same_values a.now b.now }
 {
     if a.len() != b.len() {
@@ -63,7 +63,12 @@ fn members(alloc: Global, keys: &[u32], rows: &[Row], key: &Row) -> Result<Vec<R
 }
 
 /// Puts the aggregates of the rows at the end.
-fn put_aggregates(alloc: Global, to: &mut Row, items: &[Aggregate], rows: &[Row]) -> Result<(), AllocError>
+fn put_aggregates(
+    alloc: Global,
+    to: &mut Row,
+    items: &[Aggregate],
+    rows: &[Row],
+) -> Result<(), AllocError>
     requires { All (IsSummable rows.now) items.now }
     ensures { OnOk result (to.new ≡ to.old ++ map (aggregate_of rows.now) items.now) }
 {
@@ -74,7 +79,13 @@ fn put_aggregates(alloc: Global, to: &mut Row, items: &[Aggregate], rows: &[Row]
 }
 
 /// The key's values, and the aggregates of its rows.
-fn group_row(alloc: Global, keys: &[u32], items: &[Aggregate], rows: &[Row], key: &Row) -> Result<Row, AllocError>
+fn group_row(
+    alloc: Global,
+    keys: &[u32],
+    items: &[Aggregate],
+    rows: &[Row],
+    key: &Row,
+) -> Result<Row, AllocError>
     requires { All (IsSummable rows.now) items.now }
     ensures { IfOk result (λ row. row ≡ group_row keys.now items.now rows.now key.now) }
 {
@@ -85,7 +96,13 @@ fn group_row(alloc: Global, keys: &[u32], items: &[Aggregate], rows: &[Row], key
 }
 
 /// The row of each of these keys.
-fn group_rows(alloc: Global, keys: &[u32], items: &[Aggregate], rows: &[Row], found: &[Row]) -> Result<Vec<Row>, AllocError>
+fn group_rows(
+    alloc: Global,
+    keys: &[u32],
+    items: &[Aggregate],
+    rows: &[Row],
+    found: &[Row],
+) -> Result<Vec<Row>, AllocError>
     requires { All (IsSummable rows.now) items.now }
     ensures { IfOk result (λ groups. groups.items ≡ map (group_row keys.now items.now rows.now) found.now) }
 {
@@ -97,7 +114,12 @@ fn group_rows(alloc: Global, keys: &[u32], items: &[Aggregate], rows: &[Row], fo
 }
 
 /// One row for each different key, and exactly one where there are no keys.
-pub fn grouped(alloc: Global, keys: &[u32], items: &[Aggregate], rows: &[Row]) -> Result<Vec<Row>, AllocError>
+pub fn grouped(
+    alloc: Global,
+    keys: &[u32],
+    items: &[Aggregate],
+    rows: &[Row],
+) -> Result<Vec<Row>, AllocError>
     requires { All (IsSummable rows.now) items.now }
     ensures { IfOk result (λ groups. groups.items ≡ grouped keys.now items.now rows.now) }
 {
