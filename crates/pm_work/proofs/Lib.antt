@@ -18,3 +18,8 @@ pub mod Flags
 pub mod FirstBounds
 pub mod Numbered
 pub mod Gauges
+pub mod RowKinds
+pub mod Readability
+pub mod Summable
+pub mod Adding
+pub mod Evaluating

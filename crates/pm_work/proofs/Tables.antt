@@ -100,7 +100,7 @@ order_named wide None named = refl
 order_named wide (Some order) named = below_named wide order named
 
 -- what holds of no table and of each declared one holds of the table at each place
-at_place : (P : Option Relation → Option Declaration → Type 0) → P None None → ((table : Relation) → IsRelation table → P (Some table) (Some table.decl))
+pub at_place : (P : Option Relation → Option Declaration → Type 0) → P None None → ((table : Relation) → IsRelation table → P (Some table) (Some table.decl))
     → (db : Db) → All IsRelation db → (place : ℕ) → P (slice_get db place) (slice_get (decls_of db) place)
 at_place P none some [] sound place = none
 at_place P none some (table ∷ db) sound zero = some table (All-head IsRelation table db sound)

@@ -6,4 +6,5 @@ pub mod Orderly
 pub mod Facts
 pub mod First
 pub mod Fits
+pub mod Evaluation
 pub mod Worked
