@@ -94,7 +94,7 @@ returns-in_ok-put_end-in-Ok-End-clause-ended g c = λ _.
     let text : end_line (get_or c.gauges.result.now 0 no_gauge).handed a.events ≡ end_text c.args.self.now.plan c.args.self.now.db =
     ends (run_of a) e c.gauges.result.now no_gauge a.events is over c.gauges.ensures.gauges c.self.invariant.events
     ∙ ap (λ r. end_text r.plan r.db) c.self.view_is in
-    c.in_ok-put_end-in-Ok-End.ensures.whole ∙ ap (gained old) text
+    subst (λ t. written c.put_end.new.sink ≡ gained old t) text c.in_ok-put_end-in-Ok-End.ensures.whole
 
 pub returns-in_ok-write_progress-in-Ok-Row-clause-went : goal.returns-in_ok-write_progress-in-Ok-Row-clause-went
 returns-in_ok-write_progress-in-Ok-Row-clause-went g c = λ _.
