@@ -21,3 +21,4 @@ pub mod Readability
 pub mod Summable
 pub mod Adding
 pub mod Evaluating
+pub mod Examples

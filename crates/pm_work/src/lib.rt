@@ -2,11 +2,13 @@
 //! whole work, counted in rows (the getnext model of work of Chaudhuri, Narasayya and Ramamurthy, SIGMOD 2004).
 #![tactic(auto)]
 
-mod evaluation;
 pub mod declared;
+mod evaluation;
 pub mod laws;
-
 pub mod worked;
 
-pub use evaluation::count_whole;
 pub use declared::tables_are_declared;
+pub use evaluation::count_whole;
+
+#[cfg(test)]
+mod tests;
