@@ -23,3 +23,4 @@ pub mod Readability
 pub mod Summable
 pub mod Adding
 pub mod Evaluating
+pub mod Examples
