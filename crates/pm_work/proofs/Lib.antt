@@ -18,6 +18,7 @@ pub mod Flags
 pub mod FirstBounds
 pub mod RowKinds
 pub mod Readability
+pub mod ColumnRanges
 pub mod Summable
 pub mod Adding
 pub mod Evaluating

@@ -1,5 +1,5 @@
 -- a condition that fits the columns of a row can be asked of it
-use Rattle.std.proofs.Common.{◌≡◌, ℕ, zero, suc, ◌<◌, ◌≤◌, ◌^◌, Bool, true, false, ◌&&◌, List, [], ◌∷◌, ◌++◌, length, map, refl, sym, ap, ◌∙◌, subst, arith}
+use Rattle.std.proofs.Common.{◌≡◌, ℕ, zero, suc, ◌<◌, ◌≤◌, ◌^◌, true, ◌&&◌, List, [], ◌∷◌, length, map, sym, ◌∙◌, subst, arith}
 use Rattle.std.specs.Prelude.{All, Option, None, Some, IfSome, nat_lt, nat_eq}
 use Rattle.std.specs.List.{list_all}
 use Rattle.std.proofs.lemmas.List.Elements.{All-nil, All-cons, All-head, All-tail, All-append, All-map, All-weaker}
@@ -18,7 +18,7 @@ use Rattle.pm_values.specs.declared.value.Kind.TheVariants as kind
 use Rattle.pm_values.specs.declared.condition.Operand.{Operand}
 use Rattle.pm_values.specs.declared.condition.Operand.TheVariants as operand
 use Rattle.pm_values.specs.declared.condition.Cond.{Cond}
-use Rattle.pm_values.specs.Table.{Declaration, Relation, IsScale, HasScale, IsRelation}
+use Rattle.pm_values.specs.Table.{IsScale, IsRelation}
 use Rattle.pm_values.specs.Row.{Row}
 use Rattle.pm_values.specs.Readable.{IsReadableOperand, IsReadable}
 use Rattle.pm_plan.specs.declared.plan.Aggregate.{Aggregate}

@@ -1,5 +1,5 @@
 -- without a group below it, an operator's numbers have 64 bits, and what a group adds up is small
-use Rattle.std.proofs.Common.{◌≡◌, ℕ, zero, suc, Bool, true, false, ◌||◌, List, [], ◌∷◌, ◌++◌, map, refl, sym, subst, inl, inr}
+use Rattle.std.proofs.Common.{◌≡◌, ℕ, zero, suc, Bool, true, false, List, [], ◌∷◌, sym, subst, inl, inr}
 use Rattle.std.specs.Prelude.{All}
 use Rattle.std.specs.List.{filter}
 use Rattle.std.proofs.lemmas.Bool.{cases_Bool}
@@ -20,7 +20,6 @@ use Rattle.pm_plan.specs.Joins.{join}
 use Rattle.pm_plan.specs.Tree.{Tree, Scan, Filter, Project, Sort, Group, Hash, Merge, Index}
 use Rattle.pm_plan.specs.Right.{has_group}
 use Rattle.pm_plan.specs.Outputs.{output, keeps_if}
-use Rattle.pm_work.specs.Fits.{decls_of}
 use Rattle.pm_work.specs.Evaluation.{IsSmall, IsSummable}
 use Rattle.pm_work.proofs.Ascending.{or_false}
 use Rattle.pm_work.proofs.Tables.{at_place}
