@@ -20,6 +20,7 @@ pub mod Numbered
 pub mod Gauges
 pub mod RowKinds
 pub mod Readability
+pub mod ColumnRanges
 pub mod Summable
 pub mod Adding
 pub mod Evaluating

@@ -1,7 +1,6 @@
-use Rattle.std.proofs.Common.{◌≡◌, ◌∙◌, length, sym, ap, subst}
-use Rattle.pm_work.specs.Fits.{decls_of, Fits}
-use Rattle.pm_work.specs.Worked.{ordered_shop, merged_few}
-use Rattle.pm_work.proofs.Examples.{IsPlanOf, merged_few_fits}
+use Rattle.std.proofs.Common.{◌∙◌, length, sym, ap, subst}
+use Rattle.pm_work.specs.Fits.{Fits}
+use Rattle.pm_work.proofs.Examples.{merged_few_fits}
 use Rattle.pm_work.proofs.tests.merged_few.Goals as goal
 
 pub count_whole-requires : goal.count_whole-requires
