@@ -1,16 +1,15 @@
--- where the first bound of the whole work is small enough, the bounds as they are computed are the bounds at every moment
+-- where the first bound of the whole work is small enough, the bounds as they are computed are the bounds
 use Rattle.std.proofs.Common.{◌≡◌, ℕ, ◌+◌, ◌<◌, ◌≤◌, ◌^◌, min, refl, arith}
 use Rattle.std.proofs.Math.Nat.{le_trans}
 use Rattle.pm_plan.specs.Rows.{Db}
 use Rattle.pm_plan.specs.Tree.{Tree, Scan, Filter, Project, Sort, Group, Hash, Merge, Index, Seek, size, Each, total}
 use Rattle.pm_work.specs.Moments.{Gauges}
 use Rattle.pm_work.specs.First.{greatest, first_bound}
-use Rattle.pm_work.specs.Fits.{IsSound, sizes_of}
+use Rattle.pm_work.specs.Fits.{sizes_of}
 use Rattle.pm_bounds.specs.Bounds.{hi, hi_of_seek, hi_whole, first_whole}
+use Rattle.pm_bounds.specs.Enclosure.{AllWithinFirst}
 use Rattle.pm_bounds.specs.Capped.{AllUpTo, hi_capped, hi_of_seek_capped}
 use Rattle.pm_bounds.proofs.Caps.{hi_capped_is, hi_of_seek_capped_is}
-use Rattle.pm_bounds.proofs.Certain.{moment_within_first}
-use Rattle.pm_bounds.proofs.Moments.{moment}
 use Rattle.pm_bounds.proofs.Wholes.{whole_within_first}
 
 -- no term of a sum is above the sum
@@ -55,19 +54,18 @@ lesser a b x p q = omega (arith, p, q)
 up_to_greatest : (x : ℕ) → x ≤ 10 ^ 34 → x ≤ greatest
 up_to_greatest x p = le_trans p (omega (arith, below_greatest))
 
-module _ (db : Db) (tree : Tree) (sound : IsSound db tree) (bounded : first_bound (sizes_of db) tree ≤ 10 ^ 34) (t : ℕ) where
-  pub whole_bounded : hi_whole tree (moment db tree t) ≤ 10 ^ 34
+module _ (db : Db) (tree : Tree) (bounded : first_bound (sizes_of db) tree ≤ 10 ^ 34) (G : Gauges) (within : AllWithinFirst (sizes_of db) tree 1 G) where
+  pub whole_bounded : hi_whole tree G ≤ 10 ^ 34
   whole_bounded =
-      le_trans (whole_within_first (sizes_of db) tree (moment db tree t) (moment_within_first db tree sound t))
+      le_trans (whole_within_first (sizes_of db) tree G within)
       (lesser greatest (10 ^ 34) (first_whole (sizes_of db) tree) below_greatest bounded)
 
-  pub moment_up_to : AllUpTo greatest tree 1 (moment db tree t)
-  moment_up_to =
-      each_up_to (λ u m. hi u m (moment db tree t)) (λ left seek m. hi_of_seek left seek m (moment db tree t)) greatest tree 1 (up_to_greatest _ whole_bounded)
+  pub up_to_all : AllUpTo greatest tree 1 G
+  up_to_all = each_up_to (λ u m. hi u m G) (λ left seek m. hi_of_seek left seek m G) greatest tree 1 (up_to_greatest _ whole_bounded)
 
-  pub each_capped : Each (λ u m. hi_capped greatest u m (moment db tree t) ≡ hi u m (moment db tree t))
-      (λ left seek m. hi_of_seek_capped greatest left seek m (moment db tree t) ≡ hi_of_seek left seek m (moment db tree t)) tree 1
-  each_capped = capped_at_each greatest some (moment db tree t) tree 1 moment_up_to
+  pub each_capped : Each (λ u m. hi_capped greatest u m G ≡ hi u m G)
+      (λ left seek m. hi_of_seek_capped greatest left seek m G ≡ hi_of_seek left seek m G) tree 1
+  each_capped = capped_at_each greatest some G tree 1 up_to_all
 
-  pub root_capped : hi_capped greatest tree 1 (moment db tree t) ≡ hi tree 1 (moment db tree t)
-  root_capped = hi_capped_is greatest some (moment db tree t) tree 1 moment_up_to
+  pub root_capped : hi_capped greatest tree 1 G ≡ hi tree 1 G
+  root_capped = hi_capped_is greatest some G tree 1 up_to_all

@@ -61,7 +61,7 @@ lo_whole tree G = total (λ t n. lo t n G) (λ left seek n. lo_of_seek left seek
 abbrev pub hi_whole : Tree → Gauges → ℕ
 hi_whole tree G = total (λ t n. hi t n G) (λ left seek n. hi_of_seek left seek n G) tree 1
 
--- before any event, from the sizes of the tables
+-- the sum of the first bounds of all nodes
 abbrev pub first_whole : Sizes → Tree → ℕ
 first_whole sizes tree = total (λ t n. first_hi sizes t) (λ left seek n. first_seek sizes seek (first_hi sizes left)) tree 1
 

@@ -51,7 +51,7 @@ hi_of_seek_capped top left seek n G = seek_above_capped top seek (n + 1 + size l
 abbrev pub AllUpTo : ℕ → Tree → ℕ → Gauges → Type 0
 AllUpTo top tree n G = Each (λ t m. hi t m G ≤ top) (λ left seek m. hi_of_seek left seek m G ≤ top) tree n
 
--- the same before any event, from the sizes of the tables
+-- the same of the first bounds, from the sizes of the tables alone
 abbrev pub first_seek_capped : ℕ → Sizes → Seek → ℕ → ℕ
 first_seek_capped top sizes seek left =
     capped_if seek.unique.left (min top (size_in sizes seek.table)) (min top (left * min top (first_worst seek.unique.right (size_in sizes seek.table))))

@@ -19,7 +19,7 @@ pub record AreCertified (db : Db) (tree : Tree) : Type 0 where
   pub above : (t : ℕ) → t ≤ whole_work db tree → whole_work db tree ≤ (whole_at db tree t).hi
   -- so pmax, work / lo, is at most the average work per scanned row times the true fraction
   pub scans : (t : ℕ) → t ≤ whole_work db tree → scanned_rows db tree ≤ (whole_at db tree t).lo
-  -- the upper bound is at most the one before any event
+  -- the upper bound is at most the sum of the first bounds, which follow from the sizes of the tables alone
   pub within_first : (t : ℕ) → t ≤ whole_work db tree → (whole_at db tree t).hi ≤ first_whole (sizes_of db) tree
   -- safe is near the true fraction, and the percentages enclose the true one
   pub safe : (t : ℕ) → 1 ≤ t → t ≤ whole_work db tree

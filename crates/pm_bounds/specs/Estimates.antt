@@ -4,7 +4,7 @@ use Rattle.pm_fraction.specs.Root.{root}
 use Rattle.pm_fraction.specs.Hundredths.{hundredths_down, hundredths_up}
 
 -- safe is work / g with g the root of below * above, rounded down: work / g is within the square root of above / below of work / whole,
--- up to the rounding of the root. The second side is strict, so it asks for some work
+-- up to the rounding of the root. The second side is strict, so it asks that above is not 0
 pub record SafeIsNear (below whole above : ℕ) : Type 0 where
   pub least : root (below * above) * root (below * above) * below ≤ above * whole * whole
   pub most : 1 ≤ above → whole * whole * below < above * (root (below * above) + 1) * (root (below * above) + 1)

@@ -43,7 +43,7 @@ pub fn bounds_narrow()
         → (lo_whole tree G ≤ lo_whole tree H) × (hi_whole tree H ≤ hi_whole tree G) }
 {}
 
-/// No upper bound is ever above the one before any event, which is computed from the sizes of the tables.
+/// No upper bound is ever above the first one, which follows from the sizes of the tables alone.
 pub fn bounds_within_first()
     ensures each { (db : Db) (tree : Tree) (K : Counts) (G : Gauges)
         → IsSound db tree → Orderly db tree 1 K → HasGauges db tree 1 K G → AllWithinFirst (sizes_of db) tree 1 G }
@@ -74,8 +74,8 @@ pub fn percentages_enclose()
         → 1 ≤ work → work ≤ below → below ≤ whole → whole ≤ above → PercentEncloses work below whole above }
 {}
 
-/// Sums and products that stop at a greatest number give the upper bounds, where those are not above that number; and
-/// before any event they give the lesser of the bound and that number.
+/// Sums and products that stop at a greatest number give the upper bounds, where those are not above that number; of
+/// the first bounds they give the lesser of the bound and that number.
 pub fn capped_is_exact()
     ensures bounds { (top : ℕ) (tree : Tree) (n : ℕ) (G : Gauges)
         → 1 ≤ top → AllUpTo top tree n G → hi_capped top tree n G ≡ hi tree n G }
@@ -103,14 +103,15 @@ pub fn moments_are_certified()
 {}
 
 /// Where the first bound of a sound tree's work is at most 10^34, sums and products that stop at the greatest number give
-/// the upper bounds at every moment of the run, and that of the whole work is at most 10^34.
+/// the upper bounds at every orderly vector, and so at every moment of the run, and that of the whole work is at most
+/// 10^34.
 pub fn capped_bounds_are_exact()
-    ensures root { (db : Db) (tree : Tree) (t : ℕ) → IsSound db tree → first_bound (sizes_of db) tree ≤ 10 ^ 34
-        → hi_capped greatest tree 1 (gauge_in (gauges_at db tree t)) ≡ hi tree 1 (gauge_in (gauges_at db tree t)) }
-    ensures each { (db : Db) (tree : Tree) (t : ℕ) → IsSound db tree → first_bound (sizes_of db) tree ≤ 10 ^ 34
-        → Each (λ u m. hi_capped greatest u m (gauge_in (gauges_at db tree t)) ≡ hi u m (gauge_in (gauges_at db tree t)))
-        (λ left seek m. hi_of_seek_capped greatest left seek m (gauge_in (gauges_at db tree t))
-        ≡ hi_of_seek left seek m (gauge_in (gauges_at db tree t))) tree 1 }
-    ensures whole { (db : Db) (tree : Tree) (t : ℕ) → IsSound db tree → first_bound (sizes_of db) tree ≤ 10 ^ 34
-        → hi_whole tree (gauge_in (gauges_at db tree t)) ≤ 10 ^ 34 }
+    ensures root { (db : Db) (tree : Tree) (K : Counts) (G : Gauges) → IsSound db tree → first_bound (sizes_of db) tree ≤ 10 ^ 34
+        → Orderly db tree 1 K → HasGauges db tree 1 K G → hi_capped greatest tree 1 G ≡ hi tree 1 G }
+    ensures each { (db : Db) (tree : Tree) (K : Counts) (G : Gauges) → IsSound db tree → first_bound (sizes_of db) tree ≤ 10 ^ 34
+        → Orderly db tree 1 K → HasGauges db tree 1 K G
+        → Each (λ u m. hi_capped greatest u m G ≡ hi u m G)
+        (λ left seek m. hi_of_seek_capped greatest left seek m G ≡ hi_of_seek left seek m G) tree 1 }
+    ensures whole { (db : Db) (tree : Tree) (K : Counts) (G : Gauges) → IsSound db tree → first_bound (sizes_of db) tree ≤ 10 ^ 34
+        → Orderly db tree 1 K → HasGauges db tree 1 K G → hi_whole tree G ≤ 10 ^ 34 }
 {}

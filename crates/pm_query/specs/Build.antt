@@ -47,7 +47,7 @@ pub data Way : Type 0 where
   ByMerge : (pairs : List Pair) → Way
   ByIndex : Way
 
--- the first columns of two orders, one by one
+-- the i-th columns of two ORDERs, paired
 abbrev pub order_pairs : List ℕ → List ℕ → List Pair
 order_pairs [] rights = []
 order_pairs (l ∷ lefts) [] = []
@@ -141,7 +141,8 @@ tree_for query sizes choice =
     if query.distinct then sort_if (selected_orders query) (Group (Project rows query.outputs) (places_from 0 query.outputs) [])
     else Project (sort_if query.orders rows) query.outputs
 
--- of a query over tables of these sizes
+-- of a query over tables of these sizes. The query is a bound one: it has a source and an output, each source behind the first has a join
+-- pair, and no column stands twice in a table's ORDER
 abbrev pub plan_for : Query → Sizes → Choice → Plan
 plan_for query sizes choice =
     let tree = tree_for query sizes choice in

@@ -6,7 +6,7 @@ use Rattle.pm_values.specs.declared.condition.Cond.{Cond}
 use Rattle.pm_values.specs.declared.condition.Cond.TheVariants as cond
 use Rattle.pm_values.specs.Table.{Declaration}
 use Rattle.pm_plan.specs.declared.plan.Aggregate.TheVariants as aggregate
-use Rattle.pm_work.specs.Worked.{against, declared, integer_column, text_column, order_decl}
+use Rattle.pm_work.specs.Worked.{number, against, declared, integer_column, text_column, order_decl}
 use Rattle.pm_query.specs.declared.query.QueryTable.{QueryTable}
 use Rattle.pm_query.specs.declared.query.QuerySource.{QuerySource}
 use Rattle.pm_query.specs.declared.query.Conjunct.{Conjunct}
@@ -23,6 +23,14 @@ conjunct on c = record { on = on; cond = c }
 
 abbrev pub equal : ℕ → ℕ → Cond
 equal x y = cond.Compare comparison.Equal (operand.Column x 0) (operand.Column y 0)
+
+-- a column below another
+abbrev pub column_less : ℕ → ℕ → Cond
+column_less x y = cond.Compare comparison.Less (operand.Column x 0) (operand.Column y 0)
+
+-- 1 < 2
+abbrev pub numbers_less : Cond
+numbers_less = cond.Compare comparison.Less (operand.Literal (number 1) 0) (operand.Literal (number 2) 0)
 
 -- SELECT c.name, o.amt FROM ord o JOIN cust c ON o.cust = c.id, and these further conditions
 abbrev pub orders_with_names : Declaration → Declaration → List Conjunct → Query
@@ -113,4 +121,37 @@ priced_items =
           ∷ [];
       sources = source 0 (codes "i") ∷ source 1 (codes "p") ∷ [];
       conjuncts = conjunct (Some 1) (equal 0 1) ∷ [];
+    }
+
+-- ---- three tables: orders, their customers, and the customers' regions
+
+abbrev pub region_decl : Declaration
+region_decl = declared (codes "region") (integer_column (codes "id") ∷ text_column (codes "name") ∷ []) (Some (0 ∷ [])) None
+
+abbrev pub client_decl : Declaration
+client_decl = declared (codes "client") (integer_column (codes "id") ∷ integer_column (codes "region") ∷ []) (Some (0 ∷ [])) None
+
+-- FROM ord o JOIN client c ON c.id = o.cust AND o.cust = c.id AND c.id > 1 JOIN region r ON r.id = c.region AND o.amt < r.id WHERE 1 < 2
+abbrev pub three_sources : Query
+three_sources =
+    record (of_table order_decl (0 ∷ 6 ∷ [])) {
+      tables = table_at 0 order_decl ∷ table_at 1 client_decl ∷ table_at 2 region_decl ∷ [];
+      sources = source 0 (codes "o") ∷ source 1 (codes "c") ∷ source 2 (codes "r") ∷ [];
+      conjuncts =
+          conjunct (Some 1) (equal 3 1) ∷ conjunct (Some 1) (equal 1 3) ∷ conjunct (Some 1) (against comparison.Greater 3 1)
+          ∷ conjunct (Some 2) (equal 5 4) ∷ conjunct (Some 2) (column_less 2 5) ∷ conjunct None numbers_less ∷ [];
+    }
+
+-- ---- two tables with an ORDER of two columns
+
+abbrev pub twice_ordered : List ℕ → Declaration
+twice_ordered name = declared name (integer_column (codes "a") ∷ integer_column (codes "b") ∷ integer_column (codes "c") ∷ []) None (Some (1 ∷ 0 ∷ []))
+
+-- FROM t x JOIN u y ON x.a = y.a AND x.b = y.b, or only these of the pairs
+abbrev pub two_orders : List Conjunct → Query
+two_orders pairs =
+    record (of_table (twice_ordered (codes "t")) (0 ∷ [])) {
+      tables = table_at 0 (twice_ordered (codes "t")) ∷ table_at 1 (twice_ordered (codes "u")) ∷ [];
+      sources = source 0 (codes "x") ∷ source 1 (codes "y") ∷ [];
+      conjuncts = pairs;
     }

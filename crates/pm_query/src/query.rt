@@ -29,7 +29,8 @@ pub struct Conjunct {
     pub cond: Cond,
 }
 
-/// The conjuncts of a statement, in the order of its text.
+/// The conjuncts of a statement, in the order of its text: the members of ON and WHERE, with AND lists taken apart at all
+/// levels. A BETWEEN is one conjunct.
 pub type Conjuncts = Items<Conjunct>;
 
 /// An aggregate of a query.
@@ -48,7 +49,7 @@ pub type QueryOrders = SortKeys;
 ///
 /// Columns in `conjuncts`, `keys` and `aggregates` are places, from 0, in the row of all columns of all sources in
 /// order. Columns in `having`, `outputs` and `orders` are places in the same row, or in a grouped query in the row of
-/// the keys followed by the aggregates.
+/// the keys followed by the aggregates. `keys` and `aggregates` hold each entry once.
 #[derive(Debug, Drop)]
 pub struct Query {
     pub tables: QueryTables,

@@ -1,15 +1,16 @@
 //! Worked examples of queries and their plans, each the contract of a function that does nothing: they are proved by
 //! computing.
-ghost use Rattle.std.specs.Prelude.{◌≡◌, true, false, [], ◌∷◌, None, codes};
+ghost use Rattle.std.specs.Prelude.{◌≡◌, true, false, [], ◌∷◌, None, Some, codes};
 ghost use Rattle.pm_values.specs.declared.condition.Comparison.TheVariants as comparison;
 ghost use Rattle.pm_values.specs.declared.value.Value.TheVariants.{Null, Text};
 ghost use Rattle.pm_plan.specs.declared.plan.Node.TheVariants as node;
-ghost use Rattle.pm_plan.specs.Tree.{Project, Hash, Scan};
+ghost use Rattle.pm_values.specs.declared.condition.Cond.TheVariants as cond;
+ghost use Rattle.pm_plan.specs.Tree.{Project, Filter, Hash, Merge, Index, Scan};
 ghost use Rattle.pm_work.specs.Worked.{number, label, pair, flags, against, order_decl, customer_decl, ordered_order_decl, ordered_customer_decl, shop, ordered_shop, no_orders, orders_alone, groups, hashed, sought_rows, sought_all, merged_rows, merged_few, counted, summed, looked_up, grouped_few, distinct_rows};
 ghost use Rattle.pm_query.specs.declared.query.Choice.TheVariants as choice;
 ghost use Rattle.pm_query.specs.Answer.{answer};
 ghost use Rattle.pm_query.specs.Build.{tree_for, plan_for};
-ghost use Rattle.pm_query.specs.Worked.{conjunct, orders_with_names, large_orders, sums_by_key, different_keys, sums_by_customer, order_count, few_in_many, priced_items};
+ghost use Rattle.pm_query.specs.Worked.{conjunct, orders_with_names, large_orders, sums_by_key, different_keys, sums_by_customer, order_count, few_in_many, priced_items, equal, column_less, numbers_less, three_sources, two_orders};
 
 /// A join with a condition on its left side: by a hash table, by an index, and by merging where both tables have an ORDER.
 pub fn joins_worked()
@@ -43,4 +44,20 @@ pub fn groups_worked()
     ensures sorted { tree_for sums_by_customer (4 ∷ []) choice.Auto ≡ summed }
     ensures count_answer { answer order_count no_orders ≡ (number 0 ∷ []) ∷ [] }
     ensures count { tree_for order_count (0 ∷ []) choice.Auto ≡ counted }
+{}
+
+/// Three sources: an equality stands for one pair however often and in whichever order it is written; a condition on one
+/// source goes to that source, on its own columns below a hash join and on the joined row at an index join; what no
+/// source takes stands on top, in the order of the text.
+pub fn three_sources_worked()
+    ensures hash { tree_for three_sources (4 ∷ 3 ∷ 2 ∷ []) choice.Hash ≡ Project (Filter (Hash (Hash (Scan 0 (label (codes "ord") (codes "o"))) (Filter (Scan 1 (label (codes "client") (codes "c"))) (against comparison.Greater 0 1)) (pair 1 0) (flags false true)) (Scan 2 (label (codes "region") (codes "r"))) (pair 4 0) (flags false true)) (cond.All (column_less 2 5 ∷ numbers_less ∷ []))) (0 ∷ 6 ∷ []) }
+    ensures index { tree_for three_sources (4 ∷ 3 ∷ 2 ∷ []) choice.Index ≡ Project (Filter (Index (Index (Scan 0 (label (codes "ord") (codes "o"))) (record { table = 1; label = label (codes "client") (codes "c"); pairs = pair 1 0; unique = flags false true }) (Some (against comparison.Greater 3 1))) (record { table = 2; label = label (codes "region") (codes "r"); pairs = pair 4 0; unique = flags false true }) None) (cond.All (column_less 2 5 ∷ numbers_less ∷ []))) (0 ∷ 6 ∷ []) }
+{}
+
+/// A merge join takes its pairs in the order of the two ORDERs, whose first columns they are; where they are not, a hash
+/// join takes them in the order of the text.
+pub fn orders_worked()
+    ensures both { tree_for (two_orders (conjunct (Some 1) (equal 0 3) ∷ conjunct (Some 1) (equal 1 4) ∷ [])) (2 ∷ 2 ∷ []) choice.Auto ≡ Project (Merge (Scan 0 (label (codes "t") (codes "x"))) (Scan 1 (label (codes "u") (codes "y"))) (record { left = 1; right = 1 } ∷ record { left = 0; right = 0 } ∷ []) (flags false false)) (0 ∷ []) }
+    ensures first { tree_for (two_orders (conjunct (Some 1) (equal 4 1) ∷ [])) (2 ∷ 2 ∷ []) choice.Merge ≡ Project (Merge (Scan 0 (label (codes "t") (codes "x"))) (Scan 1 (label (codes "u") (codes "y"))) (pair 1 1) (flags false false)) (0 ∷ []) }
+    ensures second_alone { tree_for (two_orders (conjunct (Some 1) (equal 0 3) ∷ [])) (2 ∷ 2 ∷ []) choice.Merge ≡ Project (Hash (Scan 0 (label (codes "t") (codes "x"))) (Scan 1 (label (codes "u") (codes "y"))) (pair 0 0) (flags false false)) (0 ∷ []) }
 {}

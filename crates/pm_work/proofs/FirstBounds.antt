@@ -1,4 +1,4 @@
--- no operator hands out more rows than the upper bound that is known before any event
+-- no operator hands out more rows than its first bound
 use Rattle.std.proofs.Common.{◌≡◌, ℕ, zero, suc, ◌+◌, ◌-◌, ◌*◌, ◌≤◌, Bool, true, false, List, [], ◌∷◌, length, map, refl, ap, arith}
 use Rattle.std.specs.Prelude.{not}
 use Rattle.std.proofs.lemmas.List.{length-map}

@@ -37,7 +37,7 @@ beyond r passes true es = es
 beyond r passes false [] = []
 beyond r passes false (e ∷ es) = beyond r passes ((e.node == r) && passes e.row) es
 
--- the events of a merge join n of sides l and r: from the rows that r has handed out, all rows of r, and the events that each side has to come.
+-- the events of a merge join n of sides l and r: from the rows that r has handed out, all rows of r, and the events of each side that are to come.
 -- Right after each left row come the right side's events up to the first row with a greater key, and then a row for each match; what is left
 -- of the right side comes last
 abbrev pub merged : List Pair → ℕ → ℕ → ℕ → List Row → List Row → List Event → List Event → List Event

@@ -1,4 +1,4 @@
--- the upper bounds that are known before any event, from the sizes of the tables
+-- the first bounds: the upper bounds that follow from the sizes of the tables alone
 use Rattle.std.specs.Prelude.{ℕ, ◌-◌, ◌^◌, Bool, true, false, List, get_or, min}
 use Rattle.pm_plan.specs.Tree.{Tree, Scan, Filter, Project, Sort, Group, Hash, Merge, Index, Seek, total}
 use Rattle.pm_work.specs.Formulas.{group_hi, pairs_hi, hash_hi, seek_hi}

@@ -27,7 +27,8 @@ abbrev pub groups_in : List ℕ → List Row → ℕ
 groups_in [] rows = 1
 groups_in (key ∷ keys) rows = length (different_keys (key ∷ keys) rows)
 
--- the rows that node n, the root of the tree, owes for the rows that were handed out below it
+-- what is settled at node n, the root of the tree: the rows that it owes for those that were handed out below it. A Scan owes its table's
+-- rows; of a projection and of a sort nothing reads it
 abbrev pub settled : Db → Tree → ℕ → Counts → ℕ
 settled db (Scan table label) n K = length (table_rows db table)
 settled db (Filter child cond) n K = length (filter (keeps cond) (handed_out db child (n + 1) K))

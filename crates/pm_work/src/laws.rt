@@ -55,7 +55,7 @@ pub fn moments_are_orderly()
     ensures first { (db : Db) (tree : Tree) (t : ℕ) → IsSound db tree → Orderly db tree 1 (counts_at db tree t) }
 {}
 
-/// In a sound plan no operator hands out more rows than the upper bound that is known before any event.
+/// In a sound plan no operator hands out more rows than its first bound, which follows from the tables' sizes alone.
 pub fn rows_within_first()
     ensures { (db : Db) (tree : Tree) → IsSound db tree → Each (λ t n. length (output db t) ≤ first_hi (sizes_of db) t)
         (λ left seek n. length (sought db seek (output db left)) ≤ first_seek (sizes_of db) seek (first_hi (sizes_of db) left)) tree 1 }

@@ -1,9 +1,11 @@
 use Rattle.pm_bounds.proofs.CapsHold.{root_capped, each_capped, whole_bounded}
+use Rattle.pm_bounds.proofs.First.{all_within_first}
+use Rattle.pm_bounds.proofs.Sound.{flags_of}
 use Rattle.pm_bounds.proofs.laws.capped_bounds_are_exact.Goals as goal
 
 pub returns : goal.returns
 returns c = record {
-  root = λ db tree t sound bounded. root_capped db tree sound bounded t;
-  each = λ db tree t sound bounded. each_capped db tree sound bounded t;
-  whole = λ db tree t sound bounded. whole_bounded db tree sound bounded t;
+  root = λ db tree K G sound bounded o g. root_capped db tree bounded G (all_within_first db K G tree 1 (flags_of db tree sound) o g);
+  each = λ db tree K G sound bounded o g. each_capped db tree bounded G (all_within_first db K G tree 1 (flags_of db tree sound) o g);
+  whole = λ db tree K G sound bounded o g. whole_bounded db tree bounded G (all_within_first db K G tree 1 (flags_of db tree sound) o g);
 }
