@@ -15,3 +15,6 @@ pub use plan::put_plan;
 pub use progress::{put_end, put_progress};
 pub use refusal::{Values, Word, put_refusal};
 pub use rows::{put_head, put_row};
+
+#[cfg(test)]
+mod tests;
