@@ -5,18 +5,15 @@ use Rattle.pm_values.specs.declared.value.Value.TheVariants as value
 use Rattle.pm_values.specs.Row.{Row, cell, pick}
 use Rattle.pm_values.specs.Order.{value_cmp, is_less}
 use Rattle.pm_values.specs.Equality.{is_null, same_values}
+use Rattle.pm_values.specs.Keys.{different_keys}
+use Rattle.pm_plan.specs.Joins.{keys_of}
 use Rattle.pm_plan.specs.declared.plan.Aggregate.{Aggregate}
 use Rattle.pm_plan.specs.declared.plan.Aggregate.TheVariants as aggregate
-
--- each different item once, at its first appearance
-abbrev pub once : {A : Type 0} → (A → A → Bool) → List A → List A
-once same [] = []
-once same (x ∷ xs) = x ∷ filter (λ y. not (same x y)) (once same xs)
 
 abbrev pub column_values : ℕ → List Row → List Value
 column_values column rows = map (λ row. cell row column) rows
 
--- NULL adds nothing
+-- NULL adds nothing, nor does a text
 abbrev pub plus : Value → Value → Value
 plus value.Null b = b
 plus (value.Text a) b = b
@@ -44,8 +41,8 @@ aggregate_of rows (aggregate.Min column) = folded lesser (column_values column r
 aggregate_of rows (aggregate.Max column) = folded greater (column_values column rows)
 
 -- the different lists of key values, by first appearance
-abbrev pub different_keys : List ℕ → List Row → List Row
-different_keys keys rows = once same_values (map (pick keys) rows)
+abbrev pub group_keys : List ℕ → List Row → List Row
+group_keys keys rows = different_keys (keys_of keys rows)
 
 -- the key's values, and the aggregates of its rows
 abbrev pub group_row : List ℕ → List Aggregate → List Row → Row → Row
@@ -54,4 +51,4 @@ group_row keys items rows key = key ++ map (aggregate_of (filter (λ row. same_v
 -- one row for each different key; without keys exactly one
 abbrev pub grouped : List ℕ → List Aggregate → List Row → List Row
 grouped [] items rows = map (aggregate_of rows) items ∷ []
-grouped (key ∷ keys) items rows = map (group_row (key ∷ keys) items rows) (different_keys (key ∷ keys) rows)
+grouped (key ∷ keys) items rows = map (group_row (key ∷ keys) items rows) (group_keys (key ∷ keys) rows)

@@ -14,7 +14,7 @@ use Rattle.pm_values.specs.Table.{Declaration}
 use Rattle.pm_plan.specs.declared.plan.Aggregate.{Aggregate}
 use Rattle.pm_plan.specs.declared.plan.Aggregate.TheVariants as aggregate
 use Rattle.pm_plan.specs.declared.plan.Pair.{Pair}
-use Rattle.pm_plan.specs.Tree.{Tree, Scan, Filter, Project, Sort, Group, Hash, Merge, Index}
+use Rattle.pm_plan.specs.Tree.{Unary, Filter, Project, Sort, Group, Tree, Scan, Over, Join, Index}
 
 -- the columns of a declared table, none past the last table
 abbrev pub columns_or_none : Option Declaration → List ColumnDecl
@@ -27,6 +27,7 @@ columns_of decls table = columns_or_none (slice_get decls table)
 abbrev pub table_kinds : List Declaration → ℕ → List Kind
 table_kinds decls table = map (λ column. column.kind) (columns_of decls table)
 
+-- the kind of a column, a whole number's past the end
 abbrev pub kind_at : List Kind → ℕ → Kind
 kind_at kinds column = get_or kinds column kind.Int
 
@@ -38,15 +39,18 @@ kind_of_item kinds (aggregate.Sum column) = kind_at kinds column
 kind_of_item kinds (aggregate.Min column) = kind_at kinds column
 kind_of_item kinds (aggregate.Max column) = kind_at kinds column
 
+-- of what an operator hands out, from its child's
+abbrev pub kinds_over : Unary → List Kind → List Kind
+kinds_over (Filter cond) kinds = kinds
+kinds_over (Project columns) kinds = map (kind_at kinds) columns
+kinds_over (Sort keys) kinds = kinds
+kinds_over (Group keys items) kinds = map (kind_at kinds) keys ++ map (kind_of_item kinds) items
+
 -- of the rows of the tree's root
 abbrev pub kinds_of : List Declaration → Tree → List Kind
 kinds_of decls (Scan table label) = table_kinds decls table
-kinds_of decls (Filter child cond) = kinds_of decls child
-kinds_of decls (Project child columns) = map (kind_at (kinds_of decls child)) columns
-kinds_of decls (Sort child keys) = kinds_of decls child
-kinds_of decls (Group child keys items) = map (kind_at (kinds_of decls child)) keys ++ map (kind_of_item (kinds_of decls child)) items
-kinds_of decls (Hash left right pairs unique) = kinds_of decls left ++ kinds_of decls right
-kinds_of decls (Merge left right pairs unique) = kinds_of decls left ++ kinds_of decls right
+kinds_of decls (Over op child) = kinds_over op (kinds_of decls child)
+kinds_of decls (Join method on left right) = kinds_of decls left ++ kinds_of decls right
 kinds_of decls (Index left seek cond) = kinds_of decls left ++ table_kinds decls seek.table
 
 -- how many columns they have

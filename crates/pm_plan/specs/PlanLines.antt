@@ -1,5 +1,5 @@
 -- the line of each operator of a plan: its number, its kind, its children or its table, with names in their canonical form, and the
--- sides of a join that are unique
+-- flags of a join
 use Rattle.std.specs.Prelude.{ℕ, ◌+◌, Bool, true, false, List, [], ◌∷◌, ◌++◌, codes, decimal}
 use Rattle.pm_lexer.specs.Quoting.{canon_name}
 use Rattle.pm_plan.specs.declared.plan.Label.{Label}
@@ -16,8 +16,16 @@ sides_word true false = codes "left"
 sides_word false true = codes "right"
 sides_word true true = codes "both"
 
-abbrev pub unique_text : Unique → List ℕ
-unique_text unique = codes " unique=" ++ sides_word unique.left unique.right
+abbrev pub total_word : Bool → List ℕ
+total_word false = []
+total_word true = codes " total"
+
+abbrev pub flags_text : Unique → List ℕ
+flags_text unique = codes " unique=" ++ sides_word unique.left unique.right ++ total_word unique.total
+
+abbrev pub hash_word : Bool → List ℕ
+hash_word false = codes "hash "
+hash_word true = codes "lefthash "
 
 -- two numbers
 abbrev pub two_text : ℕ → ℕ → List ℕ
@@ -29,9 +37,9 @@ operator_text (node.Filter child cond) = codes "filter " ++ decimal child
 operator_text (node.Project child columns) = codes "project " ++ decimal child
 operator_text (node.Sort child keys) = codes "sort " ++ decimal child
 operator_text (node.Group child keys items) = codes "group " ++ decimal child
-operator_text (node.Hash left right pairs unique) = codes "hash " ++ two_text left right ++ unique_text unique
-operator_text (node.Merge left right pairs unique) = codes "merge " ++ two_text left right ++ unique_text unique
-operator_text (node.Seek left table pairs label unique) = codes "seek " ++ names_text label ++ unique_text unique
+operator_text (node.Hash left right pairs unique pad) = hash_word pad ++ two_text left right ++ flags_text unique
+operator_text (node.Merge left right pairs unique) = codes "merge " ++ two_text left right ++ flags_text unique
+operator_text (node.Seek left table pairs label unique) = codes "seek " ++ names_text label ++ flags_text unique
 operator_text (node.Index left seek cond) = codes "index " ++ two_text left seek
 
 abbrev pub node_line : ℕ → Node → List ℕ

@@ -4,7 +4,7 @@ use Rattle.std.specs.List.{list_any, list_all}
 use Rattle.pm_values.specs.Table.{Declaration}
 use Rattle.pm_plan.specs.Joins.{right_columns}
 use Rattle.pm_plan.specs.Kinds.{width}
-use Rattle.pm_plan.specs.Tree.{Tree, Scan, Filter, Project, Sort, Group, Hash, Merge, Index}
+use Rattle.pm_plan.specs.Tree.{Tree, Scan, Over, Join, Index, keeps_columns}
 
 -- the KEY is there, and each of its columns is among these
 abbrev pub key_within : List ℕ → Option (List ℕ) → Bool
@@ -25,13 +25,8 @@ left_part wide columns = filter (λ c. nat_lt c wide) columns
 -- a join is unique where its right side is unique on the right columns of its pairs, and its left side on the left part of the columns
 abbrev pub unique_on : List Declaration → Tree → List ℕ → Bool
 unique_on decls (Scan table label) columns = unique_table decls table columns
-unique_on decls (Filter child cond) columns = unique_on decls child columns
-unique_on decls (Project child chosen) columns = false
-unique_on decls (Sort child keys) columns = unique_on decls child columns
-unique_on decls (Group child keys items) columns = false
-unique_on decls (Hash left right pairs unique) columns =
-    unique_on decls right (right_columns pairs) && unique_on decls left (left_part (width decls left) columns)
-unique_on decls (Merge left right pairs unique) columns =
-    unique_on decls right (right_columns pairs) && unique_on decls left (left_part (width decls left) columns)
+unique_on decls (Over op child) columns = keeps_columns op && unique_on decls child columns
+unique_on decls (Join method on left right) columns =
+    unique_on decls right (right_columns on.pairs) && unique_on decls left (left_part (width decls left) columns)
 unique_on decls (Index left seek cond) columns =
-    unique_table decls seek.table (right_columns seek.pairs) && unique_on decls left (left_part (width decls left) columns)
+    unique_table decls seek.table (right_columns seek.on.pairs) && unique_on decls left (left_part (width decls left) columns)

@@ -5,20 +5,19 @@ use Rattle.pm_values.specs.declared.condition.Cond.{Cond}
 use Rattle.pm_values.specs.Row.{Row, pick}
 use Rattle.pm_values.specs.Condition.{keeps}
 use Rattle.pm_plan.specs.declared.plan.Pair.{Pair}
-use Rattle.pm_plan.specs.Rows.{Db, table_rows}
-use Rattle.pm_plan.specs.Joins.{matches, joined_rows, is_greater}
-use Rattle.pm_plan.specs.Sorting.{sorted}
-use Rattle.pm_plan.specs.Grouping.{grouped}
-use Rattle.pm_plan.specs.Tree.{Tree, Scan, Filter, Project, Sort, Group, Hash, Merge, Index, size}
-use Rattle.pm_plan.specs.Outputs.{output, keeps_if}
+use Rattle.pm_plan.specs.Rows.{Db, table_rows, decls_of}
+use Rattle.pm_plan.specs.Joins.{matches, joined_rows, rows_for, is_greater}
+use Rattle.pm_plan.specs.Tree.{Unary, Method, Hash, Merge, On, Tree, Scan, Over, Join, Index, streams, right_number}
+use Rattle.pm_plan.specs.Kinds.{width}
+use Rattle.pm_plan.specs.Outputs.{output, rows_over, keeps_if}
 
 pub record Event : Type 0 where
   pub node : ℕ
   pub row : Row
 
 -- node n hands out these rows
-abbrev pub handed : ℕ → List Row → List Event
-handed n rows = map (λ row. record { node = n; row = row }) rows
+abbrev pub events_of : ℕ → List Row → List Event
+events_of n rows = map (λ row. record { node = n; row = row }) rows
 
 -- these events, and right after each row of node c the events that the row calls for
 abbrev pub after : ℕ → (Row → List Event) → List Event → List Event
@@ -31,7 +30,7 @@ through r passes true es = []
 through r passes false [] = []
 through r passes false (e ∷ es) = e ∷ through r passes ((e.node == r) && passes e.row) es
 
--- the events behind those
+-- the events after those
 abbrev pub beyond : ℕ → (Row → Bool) → Bool → List Event → List Event
 beyond r passes true es = es
 beyond r passes false [] = []
@@ -47,7 +46,7 @@ merged pairs n l r seen all (e ∷ lefts) rights =
     then (
     let found = list_any (is_greater pairs e.row) seen in
     let now = through r (is_greater pairs e.row) found rights in
-    e ∷ (now ++ (handed n (joined_rows pairs all e.row)
+    e ∷ (now ++ (events_of n (joined_rows pairs all e.row)
     ++ merged pairs n l r (seen ++ map (λ x. x.row) (filter (λ x. x.node == r) now)) all lefts (beyond r (is_greater pairs e.row) found rights))))
     else e ∷ merged pairs n l r seen all lefts rights
 
@@ -56,21 +55,30 @@ abbrev pub seek_events : Option Cond → ℕ → ℕ → Row → Row → List Ev
 seek_events cond n s l r =
     record { node = s; row = r } ∷ (if keeps_if cond (l ++ r) then record { node = n; row = l ++ r } ∷ [] else [])
 
+-- of operator n over a child with these events and these rows: right after each row of the child what that row calls for, or all at the end
+abbrev pub events_over : Unary → ℕ → List Event → List Row → List Event
+events_over op n below rows =
+    if streams op then after (n + 1) (λ row. events_of n (rows_over op (row ∷ []))) below else below ++ events_of n (rows_over op rows)
+
+-- of join n, whose right side has number r, so many columns and these rows, from the events of its sides: a hash join reads its right side
+-- first, and right after each left row hands out the rows for it
+abbrev pub events_joined : Method → List Pair → ℕ → ℕ → ℕ → List Row → List Event → List Event → List Event
+events_joined (Hash pad) pairs n r width rows lefts rights = rights ++ after (n + 1) (λ l. events_of n (rows_for (Hash pad) pairs width rows l)) lefts
+events_joined Merge pairs n r width rows lefts rights = merged pairs n (n + 1) r [] rows lefts rights
+
+-- of Index n, whose Seek has number s, from the events of its left side and the rows of the Seek's table
+abbrev pub events_sought : Option Cond → List Pair → ℕ → ℕ → List Row → List Event → List Event
+events_sought cond pairs n s rows lefts = after (n + 1) (λ l. flat_map (seek_events cond n s l) (matches pairs l rows)) lefts
+
 -- the events of a tree whose root has number n
 abbrev pub events : Db → Tree → ℕ → List Event
-events db (Scan table label) n = handed n (table_rows db table)
-events db (Filter child cond) n = after (n + 1) (λ row. handed n (filter (keeps cond) (row ∷ []))) (events db child (n + 1))
-events db (Project child columns) n = after (n + 1) (λ row. handed n (pick columns row ∷ [])) (events db child (n + 1))
-events db (Sort child keys) n = events db child (n + 1) ++ handed n (sorted keys (output db child))
-events db (Group child keys items) n = events db child (n + 1) ++ handed n (grouped keys items (output db child))
-events db (Hash left right pairs unique) n =
-    events db right (n + 1 + size left)
-    ++ after (n + 1) (λ l. handed n (joined_rows pairs (output db right) l)) (events db left (n + 1))
-events db (Merge left right pairs unique) n =
-    merged pairs n (n + 1) (n + 1 + size left) [] (output db right) (events db left (n + 1)) (events db right (n + 1 + size left))
+events db (Scan table label) n = events_of n (table_rows db table)
+events db (Over op child) n = events_over op n (events db child (n + 1)) (output db child)
+events db (Join method on left right) n =
+    events_joined method on.pairs n (right_number n left) (width (decls_of db) right) (output db right)
+    (events db left (n + 1)) (events db right (right_number n left))
 events db (Index left seek cond) n =
-    after (n + 1) (λ l. flat_map (seek_events cond n (n + 1 + size left) l) (matches seek.pairs l (table_rows db seek.table)))
-    (events db left (n + 1))
+    events_sought cond seek.on.pairs n (right_number n left) (table_rows db seek.table) (events db left (n + 1))
 
 -- the numbers of the nodes, in the order of the events
 abbrev pub trace : Db → Tree → List ℕ

@@ -1,38 +1,38 @@
 -- the plans that are run over a database
-use Rattle.std.specs.Prelude.{◌≡◌, ◌≤◌, ◌^◌, Bool, true, false, List, map, length, All}
-use Rattle.std.specs.List.{list_any}
+use Rattle.std.specs.Prelude.{◌≡◌, ℕ, true, List, map, length, slice_get, Option, None, All}
+use Rattle.pm_values.specs.declared.table.Reference.{Reference}
 use Rattle.pm_values.specs.Table.{Declaration, IsRelation}
+use Rattle.pm_values.specs.References.{ReferenceHolds}
 use Rattle.pm_plan.specs.declared.plan.Plan.{Plan}
-use Rattle.pm_plan.specs.declared.plan.Aggregate.{Aggregate}
-use Rattle.pm_plan.specs.declared.plan.Aggregate.TheVariants as aggregate
-use Rattle.pm_plan.specs.Rows.{Db}
-use Rattle.pm_plan.specs.Tree.{Tree, Group, Each}
+use Rattle.pm_plan.specs.Rows.{Db, table_rows, decls_of}
+use Rattle.pm_plan.specs.Tree.{Tree}
 use Rattle.pm_plan.specs.Preorder.{tree_of}
-use Rattle.pm_plan.specs.Right.{AreOperators, IsRight}
-use Rattle.pm_work.specs.First.{Sizes, first_hi, first_bound}
-
-abbrev pub decls_of : Db → List Declaration
-decls_of db = map (λ table. table.decl) db
+use Rattle.pm_plan.specs.References.{references_or_none, is_named}
+use Rattle.pm_plan.specs.Valid.{tables_of, IsValidTree, IsValid}
+use Rattle.pm_work.specs.First.{Sizes, too_wide}
 
 abbrev pub sizes_of : Db → Sizes
 sizes_of db = map (λ table. length table.rows) db
 
--- the tables are as they are declared, and each operator of the tree is right for them
+-- each reference of the first table to the second one, which is told by its name, holds of their rows
+abbrev pub ReferencesBetween : Db → ℕ → ℕ → Type 0
+ReferencesBetween db child parent =
+    All (λ reference. is_named (slice_get (decls_of db) parent) reference.target ≡ true → ReferenceHolds reference (table_rows db child) (table_rows db parent))
+    (references_or_none (slice_get (decls_of db) child))
+
+-- the references between two tables that the tree names, or of one to itself
+abbrev pub ReferencesHold : Db → Tree → Type 0
+ReferencesHold db tree = All (λ child. All (ReferencesBetween db child) (tables_of tree)) (tables_of tree)
+
+-- the tables are as they are declared, their references hold, and each operator of the tree keeps the rules
 pub record IsSound (db : Db) (tree : Tree) : Type 0 where
   pub tables : All IsRelation db
-  pub operators : AreOperators (decls_of db) tree 1
+  pub operators : IsValidTree (decls_of db) tree
+  pub references : ReferencesHold db tree
 
-abbrev pub is_sum : Aggregate → Bool
-is_sum (aggregate.Sum column) = true
-is_sum _ = false
-
--- a sum has at most 10^18 rows
-abbrev pub SumFits : Sizes → Tree → Type 0
-SumFits sizes (Group child keys items) = list_any is_sum items ≡ true → first_hi sizes child ≤ 10 ^ 18
-SumFits sizes _ = Unit {0}
-
--- the plan is right for the declared tables, the first bound of its work is at most 10^34, and its sums fit
+-- the plan keeps the rules for the declared tables, its first bound is at most 10^34, no sum is taken over more than 10^18 rows, and the
+-- references between the tables that it names hold
 pub record Fits (plan : Plan) (db : Db) : Type 0 where
-  pub right : IsRight plan (decls_of db)
-  pub bounded : first_bound (sizes_of db) (tree_of plan.nodes) ≤ 10 ^ 34
-  pub sums : Each (λ t n. SumFits (sizes_of db) t) (λ left seek n. Unit {0}) (tree_of plan.nodes) 1
+  pub valid : IsValid plan (decls_of db)
+  pub narrow : too_wide (sizes_of db) (tree_of plan.nodes) ≡ None
+  pub references : ReferencesHold db (tree_of plan.nodes)

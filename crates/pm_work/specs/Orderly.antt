@@ -1,48 +1,46 @@
--- the counts that can stand at one moment of a run
+-- the counts that can stand at one moment of a run: no node has handed out more than its output, nor more than is settled, nor before the
+-- rows that it has to read first
 use Rattle.std.specs.Prelude.{◌≡◌, ℕ, ◌+◌, ◌<◌, ◌≤◌, length}
 use Rattle.pm_plan.specs.Rows.{Db}
-use Rattle.pm_plan.specs.Tree.{Tree, Scan, Filter, Project, Sort, Group, Hash, Merge, Index, size}
+use Rattle.pm_plan.specs.Tree.{Unary, Filter, Project, Sort, Group, Method, Hash, Merge, Tree, Scan, Over, Join, Index, Seek, right_number, EachAt}
 use Rattle.pm_plan.specs.Outputs.{output, sought}
 use Rattle.pm_work.specs.Moments.{Counts, settled, seek_settled}
 
--- no node has handed out more than its output
-abbrev pub IsPart : Db → Tree → ℕ → Counts → Type 0
-IsPart db tree n K = K n ≤ length (output db tree)
+-- a sort hands out no more rows than it has read, and none before it has read all
+pub record SortIsOrderly (count read rows : ℕ) : Type 0 where
+  pub within : count ≤ read
+  pub waits : 0 < count → read ≡ rows
 
--- nor more than is settled, nor before the rows that it has to read first
+-- an operator that has handed out so many rows, with so many settled, over a child that has handed out so many of its rows
+abbrev pub OverIsOrderly : Unary → ℕ → ℕ → ℕ → ℕ → Type 0
+OverIsOrderly (Filter cond) count settled read rows = count ≤ settled
+OverIsOrderly (Project columns) count settled read rows = count ≤ read
+OverIsOrderly (Sort keys) count settled read rows = SortIsOrderly count read rows
+OverIsOrderly (Group keys items) count settled read rows = 0 < count → read ≡ rows
+
+-- a hash join reads its right side to the end before its left side
+abbrev pub JoinIsOrderly : Method → ℕ → ℕ → ℕ → Type 0
+JoinIsOrderly (Hash pad) left_count right_count right_rows = 0 < left_count → right_count ≡ right_rows
+JoinIsOrderly Merge left_count right_count right_rows = Unit {0}
+
+-- what holds at the tree's root beside that it is within its output
+abbrev pub RootIsOrderly : Db → Tree → ℕ → Counts → Type 0
+RootIsOrderly db (Scan table label) n K = Unit {0}
+RootIsOrderly db (Over op child) n K = OverIsOrderly op (K n) (settled db (Over op child) n K) (K (n + 1)) (length (output db child))
+RootIsOrderly db (Join method on left right) n K =
+    (K n ≤ settled db (Join method on left right) n K)
+    × JoinIsOrderly method (K (n + 1)) (K (right_number n left)) (length (output db right))
+RootIsOrderly db (Index left seek cond) n K = K n ≤ settled db (Index left seek cond) n K
+
+pub record IsOrderly (db : Db) (tree : Tree) (n : ℕ) (K : Counts) : Type 0 where
+  pub within : K n ≤ length (output db tree)
+  pub root : RootIsOrderly db tree n K
+
+-- the Seek of Index n
+pub record SeekIsOrderly (db : Db) (left : Tree) (seek : Seek) (n : ℕ) (K : Counts) : Type 0 where
+  pub within : K (right_number n left) ≤ length (sought db seek (output db left))
+  pub settled : K (right_number n left) ≤ seek_settled db left seek n K
+
+-- of each node
 abbrev pub Orderly : Db → Tree → ℕ → Counts → Type 0
-Orderly db (Scan table label) n K = IsPart db (Scan table label) n K
-Orderly db (Filter child cond) n K =
-    IsPart db (Filter child cond) n K
-    × (K n ≤ settled db (Filter child cond) n K)
-    × Orderly db child (n + 1) K
-Orderly db (Project child columns) n K =
-    IsPart db (Project child columns) n K
-    × (K n ≤ K (n + 1))
-    × Orderly db child (n + 1) K
-Orderly db (Sort child keys) n K =
-    IsPart db (Sort child keys) n K
-    × (K n ≤ K (n + 1))
-    × (0 < K n → K (n + 1) ≡ length (output db child))
-    × Orderly db child (n + 1) K
-Orderly db (Group child keys items) n K =
-    IsPart db (Group child keys items) n K
-    × (0 < K n → K (n + 1) ≡ length (output db child))
-    × Orderly db child (n + 1) K
-Orderly db (Hash left right pairs unique) n K =
-    IsPart db (Hash left right pairs unique) n K
-    × (K n ≤ settled db (Hash left right pairs unique) n K)
-    × (0 < K (n + 1) → K (n + 1 + size left) ≡ length (output db right))
-    × Orderly db left (n + 1) K
-    × Orderly db right (n + 1 + size left) K
-Orderly db (Merge left right pairs unique) n K =
-    IsPart db (Merge left right pairs unique) n K
-    × (K n ≤ settled db (Merge left right pairs unique) n K)
-    × Orderly db left (n + 1) K
-    × Orderly db right (n + 1 + size left) K
-Orderly db (Index left seek cond) n K =
-    IsPart db (Index left seek cond) n K
-    × (K n ≤ settled db (Index left seek cond) n K)
-    × (K (n + 1 + size left) ≤ length (sought db seek (output db left)))
-    × (K (n + 1 + size left) ≤ seek_settled db left seek n K)
-    × Orderly db left (n + 1) K
+Orderly db tree n K = EachAt (λ t m. IsOrderly db t m K) (λ left seek m. SeekIsOrderly db left seek m K) tree n
