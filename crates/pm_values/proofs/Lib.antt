@@ -2,6 +2,6 @@ pub mod ValueOrder
 pub mod Keys
 pub mod Scaling
 pub mod Folds
-pub mod Readable
+pub mod WellFormed
 mod Sizes
 pub mod Truths
