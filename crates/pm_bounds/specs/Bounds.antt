@@ -1,86 +1,94 @@
 -- a lower and an upper bound of the rows of each operator, from the gauges of a moment
-use Rattle.std.specs.Prelude.{ℕ, ◌+◌, ◌-◌, List, [], ◌∷◌, ◌++◌}
+use Rattle.std.specs.Prelude.{ℕ, ◌+◌, ◌-◌, Bool, true, false, if◌then◌else◌, List, [], ◌∷◌, ◌++◌, min, max}
+use Rattle.pm_plan.specs.declared.plan.Unique.{Unique}
+use Rattle.pm_plan.specs.declared.gauge.Gauge.{Gauge}
 use Rattle.pm_plan.specs.declared.gauge.Bound.{Bound}
 use Rattle.pm_plan.specs.declared.gauge.Whole.{Whole}
 use Rattle.pm_plan.specs.Rows.{Db}
-use Rattle.pm_plan.specs.Tree.{Tree, Scan, Filter, Project, Sort, Group, Hash, Merge, Index, Seek, size, total}
-use Rattle.pm_work.specs.Formulas.{group_lo, group_hi, pairs_hi, hash_hi, seek_hi}
+use Rattle.pm_plan.specs.Tree.{Unary, Filter, Project, Sort, Group, Method, Hash, Merge, Tree, Scan, Over, Join, Index, Seek, pads, right_number, sum_at, list_at}
+use Rattle.pm_work.specs.Formulas.{Arithmetic, exact, Side, hi_over, hi_joined, seek_hi, index_hi}
 use Rattle.pm_work.specs.Moments.{Gauges, gauge_in, gauges_at}
-use Rattle.pm_work.specs.First.{Sizes, first_hi, first_seek}
+
+-- of a group with these keys: the groups so far, or one where there is a row to come
+abbrev pub group_lo : List ℕ → ℕ → ℕ → ℕ
+group_lo [] settled child_lo = 1
+group_lo (key ∷ keys) settled child_lo = max settled (min 1 child_lo)
+
+-- of an operator over a child
+abbrev pub lo_over : Unary → Gauge → ℕ → ℕ
+lo_over (Filter cond) g child_lo = g.settled
+lo_over (Project columns) g child_lo = child_lo
+lo_over (Sort keys) g child_lo = child_lo
+lo_over (Group keys items) g child_lo = group_lo keys g.settled child_lo
+
+-- where each left row has a match, there are at least as many rows as on the left
+abbrev pub lo_matched : Unique → ℕ → ℕ → ℕ
+lo_matched unique settled left_lo = if unique.total then max settled left_lo else settled
+
+-- of a join, from the count and the lower bound of its left side: where it pads, each left row that is to come gives a row at least
+abbrev pub lo_joined : Method → Unique → Gauge → ℕ → ℕ → ℕ
+lo_joined (Hash true) unique g left_count left_lo = g.settled + (left_lo - left_count)
+lo_joined (Hash false) unique g left_count left_lo = lo_matched unique g.settled left_lo
+lo_joined Merge unique g left_count left_lo = lo_matched unique g.settled left_lo
 
 -- the lower bound of the tree's root, which is node n
 abbrev pub lo : Tree → ℕ → Gauges → ℕ
 lo (Scan table label) n G = (G n).size
-lo (Filter child cond) n G = (G n).settled
-lo (Project child columns) n G = lo child (n + 1) G
-lo (Sort child keys) n G = lo child (n + 1) G
-lo (Group child keys items) n G = group_lo keys (G n).settled (lo child (n + 1) G)
-lo (Hash left right pairs unique) n G = (G n).settled
-lo (Merge left right pairs unique) n G = (G n).settled
+lo (Over op child) n G = lo_over op (G n) (lo child (n + 1) G)
+lo (Join method on left right) n G = lo_joined method on.unique (G n) (G (n + 1)).handed (lo left (n + 1) G)
 lo (Index left seek cond) n G = (G n).settled
 
 -- of the Seek of Index n
 abbrev pub lo_of_seek : Tree → Seek → ℕ → Gauges → ℕ
-lo_of_seek left seek n G = (G (n + 1 + size left)).settled
+lo_of_seek left seek n G = lo_matched seek.on.unique (G (right_number n left)).settled (lo left (n + 1) G)
 
--- the upper bound, and that of a Seek from the rows that may still come on its left side
-abbrev pub seek_above : Seek → ℕ → ℕ → Gauges → ℕ
-seek_above seek s unread G = seek_hi seek.unique (G s).settled unread (G s).worst (G s).size
+-- what node n is as a side of the operator above it, from its upper bound
+abbrev pub side_of : ℕ → Gauges → ℕ → Side
+side_of n G hi = record { count = (G n).handed; hi = hi }
+
+-- of the Seek of Index n, from the upper bound of the left side
+abbrev pub seek_above : Arithmetic → Tree → Seek → ℕ → Gauges → ℕ → ℕ
+seek_above a left seek n G left_hi = seek_hi a seek.on.unique (G (right_number n left)) (side_of (n + 1) G left_hi)
+
+-- the upper bound of the tree's root, which is node n
+abbrev pub hi_by : Arithmetic → Tree → ℕ → Gauges → ℕ
+hi_by a (Scan table label) n G = (G n).size
+hi_by a (Over op child) n G = hi_over a op (G n) (side_of (n + 1) G (hi_by a child (n + 1) G))
+hi_by a (Join method on left right) n G =
+    hi_joined a method on.unique (G n)
+    (side_of (n + 1) G (hi_by a left (n + 1) G)) (side_of (right_number n left) G (hi_by a right (right_number n left) G))
+hi_by a (Index left seek cond) n G =
+    index_hi a (G n) (side_of (right_number n left) G (seek_above a left seek n G (hi_by a left (n + 1) G)))
 
 abbrev pub hi : Tree → ℕ → Gauges → ℕ
-hi (Scan table label) n G = (G n).size
-hi (Filter child cond) n G = (G n).settled + (hi child (n + 1) G - (G (n + 1)).handed)
-hi (Project child columns) n G = hi child (n + 1) G
-hi (Sort child keys) n G = hi child (n + 1) G
-hi (Group child keys items) n G = group_hi keys (G n).settled (hi child (n + 1) G - (G (n + 1)).handed)
-hi (Hash left right pairs unique) n G =
-    hash_hi unique (G n).settled (G n).worst
-    (G (n + 1)).handed (hi left (n + 1) G)
-    (G (n + 1 + size left)).handed (hi right (n + 1 + size left) G)
-hi (Merge left right pairs unique) n G =
-    pairs_hi unique (G n).settled
-    (G (n + 1)).handed (hi left (n + 1) G)
-    (G (n + 1 + size left)).handed (hi right (n + 1 + size left) G)
-hi (Index left seek cond) n G =
-    (G n).settled
-    + (seek_above seek (n + 1 + size left) (hi left (n + 1) G - (G (n + 1)).handed) G - (G (n + 1 + size left)).handed)
+hi = hi_by exact
 
 abbrev pub hi_of_seek : Tree → Seek → ℕ → Gauges → ℕ
-hi_of_seek left seek n G = seek_above seek (n + 1 + size left) (hi left (n + 1) G - (G (n + 1)).handed) G
+hi_of_seek left seek n G = seek_above exact left seek n G (hi left (n + 1) G)
 
 abbrev pub bound_of : Tree → ℕ → Gauges → Bound
 bound_of tree n G = record { lo = lo tree n G; hi = hi tree n G }
 
+abbrev pub bound_of_seek : Tree → Seek → ℕ → Gauges → Bound
+bound_of_seek left seek n G = record { lo = lo_of_seek left seek n G; hi = hi_of_seek left seek n G }
+
 -- the work done, and the bounds of the whole work: sums over all nodes
 abbrev pub work_done : Tree → Gauges → ℕ
-work_done tree G = total (λ t n. (G n).handed) (λ left seek n. (G (n + 1 + size left)).handed) tree 1
+work_done tree G = sum_at (λ t n. (G n).handed) (λ left seek n. (G (right_number n left)).handed) tree 1
 
 abbrev pub lo_whole : Tree → Gauges → ℕ
-lo_whole tree G = total (λ t n. lo t n G) (λ left seek n. lo_of_seek left seek n G) tree 1
+lo_whole tree G = sum_at (λ t n. lo t n G) (λ left seek n. lo_of_seek left seek n G) tree 1
 
 abbrev pub hi_whole : Tree → Gauges → ℕ
-hi_whole tree G = total (λ t n. hi t n G) (λ left seek n. hi_of_seek left seek n G) tree 1
+hi_whole tree G = sum_at (λ t n. hi t n G) (λ left seek n. hi_of_seek left seek n G) tree 1
 
--- the sum of the first bounds of all nodes
-abbrev pub first_whole : Sizes → Tree → ℕ
-first_whole sizes tree = total (λ t n. first_hi sizes t) (λ left seek n. first_seek sizes seek (first_hi sizes left)) tree 1
+abbrev pub whole_of : Tree → Gauges → Whole
+whole_of tree G = record { work = work_done tree G; lo = lo_whole tree G; hi = hi_whole tree G }
 
 -- after the first t events of a tree over a database
 abbrev pub whole_at : Db → Tree → ℕ → Whole
-whole_at db tree t =
-    let G = gauge_in (gauges_at db tree t) in record { work = work_done tree G; lo = lo_whole tree G; hi = hi_whole tree G }
+whole_at db tree t = whole_of tree (gauge_in (gauges_at db tree t))
 
 -- the bounds of the tree's nodes in preorder, its root being number n
 abbrev pub bounds_of : Tree → ℕ → Gauges → List Bound
-bounds_of (Scan table label) n G = bound_of (Scan table label) n G ∷ []
-bounds_of (Filter child cond) n G = bound_of (Filter child cond) n G ∷ bounds_of child (n + 1) G
-bounds_of (Project child columns) n G = bound_of (Project child columns) n G ∷ bounds_of child (n + 1) G
-bounds_of (Sort child keys) n G = bound_of (Sort child keys) n G ∷ bounds_of child (n + 1) G
-bounds_of (Group child keys items) n G = bound_of (Group child keys items) n G ∷ bounds_of child (n + 1) G
-bounds_of (Hash left right pairs unique) n G =
-    bound_of (Hash left right pairs unique) n G ∷ (bounds_of left (n + 1) G ++ bounds_of right (n + 1 + size left) G)
-bounds_of (Merge left right pairs unique) n G =
-    bound_of (Merge left right pairs unique) n G ∷ (bounds_of left (n + 1) G ++ bounds_of right (n + 1 + size left) G)
-bounds_of (Index left seek cond) n G =
-    bound_of (Index left seek cond) n G
-    ∷ (bounds_of left (n + 1) G ++ record { lo = lo_of_seek left seek n G; hi = hi_of_seek left seek n G } ∷ [])
+bounds_of tree n G = list_at (λ t m. bound_of t m G) (λ left seek m. bound_of_seek left seek m G) tree n

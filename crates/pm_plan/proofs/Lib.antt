@@ -1,10 +1,4 @@
+pub mod Walks
 pub mod Preorders
-pub mod Inversion
 pub mod Lists
-pub mod Ends
-pub mod Pieces
-pub mod Agreement
 pub mod Conditions
-pub mod Shapes
-pub mod Rules
-pub mod PlanParts

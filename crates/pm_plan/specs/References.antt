@@ -16,7 +16,8 @@ pub record Entry : Type 0 where
   pub padded : Bool
 
 abbrev pub padded_if : Bool → List Entry → List Entry
-padded_if pad entries = map (λ entry. record entry { padded = pad || entry.padded }) entries
+padded_if pad [] = []
+padded_if pad (entry ∷ entries) = record entry { padded = pad || entry.padded } ∷ padded_if pad entries
 
 -- the entries of a tree in the order of their columns, the first of which has this number; none over other columns than the child's
 abbrev pub entries : List Declaration → Tree → ℕ → List Entry

@@ -5,7 +5,8 @@ pub struct Gauge {
     pub handed: u128,
     /// The rows that it owes for what its children have handed out.
     pub settled: u128,
-    /// The greatest number of rows with one key that it has met; 0 where it looks up no keys.
+    /// The greatest number of right rows with one key, of those that a hash join has read, and of the whole table for a
+    /// seek; 0 at every other operator.
     pub worst: u64,
     /// The rows of the table that it reads; 0 where it reads none.
     pub size: u64,

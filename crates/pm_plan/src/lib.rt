@@ -1,23 +1,13 @@
 //! The plan of a statement as a tree of operators, and the rows that each of them hands out.
 //!
-//! `check_plan` says whether a plan is right for the tables that are declared.
+//! `check_plan` says whether a plan keeps the rules for the tables that are declared.
 #![tactic(auto)]
 
-mod fits;
 pub mod gauge;
-mod kinds;
 pub mod laws;
-mod numbering;
 pub mod plan;
-pub mod right;
-mod shape;
-pub mod text;
-mod uniqueness;
-pub mod worked;
 
 pub use gauge::{Bound, Gauge, Shown, Whole};
 pub use plan::{
     Aggregate, Aggregates, Label, Node, Nodes, Pair, Pairs, Plan, SortKey, SortKeys, Unique,
 };
-pub use right::check_plan;
-pub use text::{node_text, plan_text};

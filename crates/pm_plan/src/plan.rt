@@ -17,11 +17,13 @@ pub struct Pair {
 /// A list of pairs of columns.
 pub type Pairs = Items<Pair>;
 
-/// Whether each side of a join has at most one row for each key, as far as the KEYs of its tables say.
+/// What the declarations say of a join: whether each side has at most one row for each key, as the KEYs of its tables
+/// say, and whether each left row has a match, as a reference of one of its tables says.
 #[derive(Clone, Copy, Debug, PartialEq, Eq)]
 pub struct Unique {
     pub left: bool,
     pub right: bool,
+    pub total: bool,
 }
 
 /// A column that rows are sorted by. NULL comes first, and last where the order is descending.
@@ -77,12 +79,14 @@ pub enum Node {
         keys: Columns,
         items: Aggregates,
     },
-    /// Joins by a table of the right side's rows, which it reads first.
+    /// Joins by a hash table of the right side's rows, which it reads first. Where `pad` is set, a left row without a
+    /// match is handed out once, with NULLs in the right side's columns.
     Hash {
         left: u32,
         right: u32,
         pairs: Pairs,
         unique: Unique,
+        pad: bool,
     },
     /// Joins two sides that ascend by the columns of its pairs.
     Merge {

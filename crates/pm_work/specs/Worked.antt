@@ -1,98 +1,9 @@
--- tables, conditions and plans for worked examples
-use Rattle.std.specs.Prelude.{ℕ, pos, true, false, Bool, List, [], ◌∷◌, Option, None, Some, codes}
-use Rattle.pm_values.specs.declared.value.Value.{Value}
-use Rattle.pm_values.specs.declared.value.Value.TheVariants.{Null, Int, Text}
-use Rattle.pm_values.specs.declared.value.Kind.TheVariants as kind
-use Rattle.pm_values.specs.declared.table.ColumnDecl.{ColumnDecl}
-use Rattle.pm_values.specs.declared.condition.Comparison.{Comparison}
+-- plans for worked examples
+use Rattle.std.specs.Prelude.{ℕ, true, false, List, [], ◌∷◌, None, codes}
 use Rattle.pm_values.specs.declared.condition.Comparison.TheVariants as comparison
-use Rattle.pm_values.specs.declared.condition.Operand.TheVariants as operand
-use Rattle.pm_values.specs.declared.condition.Cond.{Cond}
-use Rattle.pm_values.specs.declared.condition.Cond.TheVariants as cond
-use Rattle.pm_values.specs.Row.{Row}
-use Rattle.pm_values.specs.Table.{Declaration, Relation}
-use Rattle.pm_plan.specs.declared.plan.Label.{Label}
-use Rattle.pm_plan.specs.declared.plan.Pair.{Pair}
-use Rattle.pm_plan.specs.declared.plan.Unique.{Unique}
 use Rattle.pm_plan.specs.declared.plan.Aggregate.TheVariants as aggregate
-use Rattle.pm_plan.specs.Rows.{Db}
-use Rattle.pm_plan.specs.Tree.{Tree, Scan, Filter, Project, Sort, Group, Hash, Merge, Index, Seek}
-
--- ---- parts
-
-abbrev pub number : ℕ → Value
-number n = Int (pos n)
-
-abbrev pub integer_column : List ℕ → ColumnDecl
-integer_column name = record { name = name; kind = kind.Int; nullable = false }
-
-abbrev pub text_column : List ℕ → ColumnDecl
-text_column name = record { name = name; kind = kind.Text; nullable = true }
-
-abbrev pub declared : List ℕ → List ColumnDecl → Option (List ℕ) → Option (List ℕ) → Declaration
-declared name columns key order = record { name = name; file = name; columns = columns; key = key; order = order }
-
-abbrev pub over : Declaration → List Row → Relation
-over decl rows = record { decl = decl; rows = rows }
-
-abbrev pub label : List ℕ → List ℕ → Label
-label table alias = record { table = table; alias = alias }
-
--- a column against a number
-abbrev pub against : Comparison → ℕ → ℕ → Cond
-against how column n = cond.Compare how (operand.Column column 0) (operand.Literal (number n) 0)
-
-abbrev pub pair : ℕ → ℕ → List Pair
-pair left right = record { left = left; right = right } ∷ []
-
-abbrev pub flags : Bool → Bool → Unique
-flags left right = record { left = left; right = right }
-
--- ---- customers and their orders
-
-abbrev pub customer_columns : List ColumnDecl
-customer_columns = integer_column (codes "id") ∷ text_column (codes "name") ∷ []
-
-abbrev pub order_columns : List ColumnDecl
-order_columns = integer_column (codes "id") ∷ integer_column (codes "cust") ∷ integer_column (codes "amt") ∷ []
-
-abbrev pub customer_decl : Declaration
-customer_decl = declared (codes "cust") customer_columns (Some (0 ∷ [])) None
-
-abbrev pub order_decl : Declaration
-order_decl = declared (codes "ord") order_columns (Some (0 ∷ [])) None
-
--- the same, ascending by id and by customer
-abbrev pub ordered_customer_decl : Declaration
-ordered_customer_decl = declared (codes "cust") customer_columns (Some (0 ∷ [])) (Some (0 ∷ []))
-
-abbrev pub ordered_order_decl : Declaration
-ordered_order_decl = declared (codes "ord") order_columns (Some (0 ∷ [])) (Some (1 ∷ []))
-
-abbrev pub customer_rows : List Row
-customer_rows =
-    (number 1 ∷ Text (codes "Ann") ∷ []) ∷ (number 2 ∷ Text (codes "Bob") ∷ []) ∷ (number 3 ∷ Text (codes "Cy") ∷ []) ∷ []
-
-abbrev pub order_rows : List Row
-order_rows =
-    (number 10 ∷ number 1 ∷ number 5 ∷ []) ∷ (number 11 ∷ number 1 ∷ number 7 ∷ [])
-    ∷ (number 12 ∷ number 3 ∷ number 9 ∷ []) ∷ (number 13 ∷ number 9 ∷ number 1 ∷ []) ∷ []
-
--- orders, then customers
-abbrev pub shop : Db
-shop = over order_decl order_rows ∷ over customer_decl customer_rows ∷ []
-
-abbrev pub ordered_shop : Db
-ordered_shop = over ordered_order_decl order_rows ∷ over ordered_customer_decl customer_rows ∷ []
-
-abbrev pub no_orders : Db
-no_orders = over order_decl [] ∷ []
-
-abbrev pub customers_alone : Db
-customers_alone = over customer_decl customer_rows ∷ []
-
-abbrev pub orders_alone : Db
-orders_alone = over order_decl order_rows ∷ []
+use Rattle.pm_plan.specs.Tree.{Unary, Filter, Project, Sort, Group, Hash, Merge, Tree, Scan, Over, Join, Index, Seek}
+use Rattle.pm_plan.specs.Worked.{label, against, pair, flags, on}
 
 abbrev pub scan_orders : Tree
 scan_orders = Scan 0 (label (codes "ord") (codes "o"))
@@ -101,105 +12,101 @@ abbrev pub scan_customers : Tree
 scan_customers = Scan 1 (label (codes "cust") (codes "c"))
 
 abbrev pub above_five : Tree
-above_five = Filter scan_orders (against comparison.Greater 2 5)
+above_five = Over (Filter (against comparison.Greater 2 5)) scan_orders
 
 abbrev pub seek_customers : Seek
-seek_customers = record { table = 1; label = label (codes "cust") (codes "c"); pairs = pair 1 0; unique = flags false true }
+seek_customers = record { table = 1; label = label (codes "cust") (codes "c"); on = on (pair 1 0) (flags false true) }
 
 -- SELECT c.name, o.amt FROM ord o JOIN cust c ON o.cust = c.id WHERE o.amt > 5
 abbrev pub hashed : Tree
-hashed = Project (Hash above_five scan_customers (pair 1 0) (flags false true)) (4 ∷ 2 ∷ [])
+hashed = Over (Project (4 ∷ 2 ∷ [])) (Join (Hash false) (on (pair 1 0) (flags false true)) above_five scan_customers)
 
 abbrev pub sought_rows : Tree
-sought_rows = Project (Index above_five seek_customers None) (4 ∷ 2 ∷ [])
+sought_rows = Over (Project (4 ∷ 2 ∷ [])) (Index above_five seek_customers None)
 
 -- the same without WHERE
 abbrev pub sought_all : Tree
-sought_all = Project (Index scan_orders seek_customers None) (4 ∷ 2 ∷ [])
+sought_all = Over (Project (4 ∷ 2 ∷ [])) (Index scan_orders seek_customers None)
 
 abbrev pub merged_rows : Tree
-merged_rows = Project (Merge above_five scan_customers (pair 1 0) (flags false true)) (4 ∷ 2 ∷ [])
+merged_rows = Over (Project (4 ∷ 2 ∷ [])) (Join Merge (on (pair 1 0) (flags false true)) above_five scan_customers)
 
 -- WHERE o.amt = 7
 abbrev pub merged_few : Tree
-merged_few = Project (Merge (Filter scan_orders (against comparison.Equal 2 7)) scan_customers (pair 1 0) (flags false true)) (4 ∷ 2 ∷ [])
+merged_few = Over (Project (4 ∷ 2 ∷ [])) (Join Merge (on (pair 1 0) (flags false true)) (Over (Filter (against comparison.Equal 2 7)) scan_orders) scan_customers)
+
+-- SELECT c.name, o.amt FROM ord o JOIN cust c ON o.cust = c.id, each order's customer being there
+abbrev pub total_join : Tree
+total_join =
+    Over (Project (4 ∷ 2 ∷ []))
+    (Join (Hash false) (on (pair 1 0) (record { left = false; right = true; total = true })) scan_orders scan_customers)
+
+-- SELECT c.name, o.amt FROM cust c LEFT JOIN ord o ON o.cust = c.id
+abbrev pub padded_join : Tree
+padded_join =
+    Over (Project (1 ∷ 4 ∷ []))
+    (Join (Hash true) (on (pair 0 1) (flags true false)) (Scan 0 (label (codes "cust") (codes "c"))) (Scan 1 (label (codes "ord") (codes "o"))))
 
 -- SELECT COUNT(*) FROM ord
 abbrev pub counted : Tree
-counted = Project (Group (Scan 0 (label (codes "ord") (codes "ord"))) [] (aggregate.CountAll ∷ [])) (0 ∷ [])
+counted = Over (Project (0 ∷ [])) (Over (Group [] (aggregate.CountAll ∷ [])) (Scan 0 (label (codes "ord") (codes "ord"))))
 
 -- SELECT id FROM ord
 abbrev pub order_ids : Tree
-order_ids = Project (Scan 0 (label (codes "ord") (codes "ord"))) (0 ∷ [])
+order_ids = Over (Project (0 ∷ [])) (Scan 0 (label (codes "ord") (codes "ord")))
 
 -- SELECT name FROM cust WHERE id >= 2
 abbrev pub customers_from_two : Tree
 customers_from_two =
-    Project (Filter (Scan 0 (label (codes "cust") (codes "cust"))) (against comparison.AtLeast 0 2)) (1 ∷ [])
+    Over (Project (1 ∷ [])) (Over (Filter (against comparison.AtLeast 0 2)) (Scan 0 (label (codes "cust") (codes "cust"))))
 
 -- SELECT cust, SUM(amt) AS t FROM ord GROUP BY cust ORDER BY t DESC, cust
 abbrev pub summed : Tree
 summed =
-    Project (Sort (Group (Scan 0 (label (codes "ord") (codes "ord"))) (1 ∷ []) (aggregate.Sum 2 ∷ []))
-    (record { column = 1; descending = true } ∷ record { column = 0; descending = false } ∷ [])) (0 ∷ 1 ∷ [])
+    Over (Project (0 ∷ 1 ∷ []))
+    (Over (Sort (record { column = 1; descending = true } ∷ record { column = 0; descending = false } ∷ []))
+    (Over (Group (1 ∷ []) (aggregate.Sum 2 ∷ [])) (Scan 0 (label (codes "ord") (codes "ord")))))
 
 -- ---- a small table and one with a KEY
-
-abbrev pub few_and_many : List Row → Db
-few_and_many many =
-    over (declared (codes "one") (integer_column (codes "x") ∷ []) None None) ((number 3 ∷ []) ∷ (number 40 ∷ []) ∷ [])
-    ∷ over (declared (codes "big") (integer_column (codes "id") ∷ []) (Some (0 ∷ [])) None) many
-    ∷ []
 
 -- SELECT b.id FROM one a JOIN big b ON a.x = b.id
 abbrev pub looked_up : Tree
 looked_up =
-    Project (Index (Scan 0 (label (codes "one") (codes "a")))
-    (record { table = 1; label = label (codes "big") (codes "b"); pairs = pair 0 0; unique = flags false true }) None) (1 ∷ [])
+    Over (Project (1 ∷ []))
+    (Index (Scan 0 (label (codes "one") (codes "a")))
+    (record { table = 1; label = label (codes "big") (codes "b"); on = on (pair 0 0) (flags false true) }) None)
 
 -- ---- two tables without a KEY
-
-abbrev pub keyless : Db
-keyless =
-    over (declared (codes "a") (integer_column (codes "x") ∷ []) None None) ((number 5 ∷ []) ∷ (number 7 ∷ []) ∷ (number 5 ∷ []) ∷ [])
-    ∷ over (declared (codes "b") (integer_column (codes "y") ∷ []) None None) ((number 5 ∷ []) ∷ (number 6 ∷ []) ∷ (number 5 ∷ []) ∷ [])
-    ∷ []
 
 -- SELECT * FROM a JOIN b ON a.x = b.y
 abbrev pub keyless_join : Tree
 keyless_join =
-    Project (Hash (Scan 0 (label (codes "a") (codes "a"))) (Scan 1 (label (codes "b") (codes "b"))) (pair 0 0) (flags false false)) (0 ∷ 1 ∷ [])
+    Over (Project (0 ∷ 1 ∷ []))
+    (Join (Hash false) (on (pair 0 0) (flags false false)) (Scan 0 (label (codes "a") (codes "a"))) (Scan 1 (label (codes "b") (codes "b"))))
 
 -- ---- groups with NULLs
-
-abbrev pub group_rows : List Row
-group_rows =
-    (number 1 ∷ Text (codes "b") ∷ number 5 ∷ []) ∷ (number 2 ∷ Null ∷ Null ∷ []) ∷ (number 3 ∷ Text (codes "a") ∷ number 2 ∷ [])
-    ∷ (number 4 ∷ Null ∷ Null ∷ []) ∷ (number 5 ∷ Text (codes "b") ∷ number 1 ∷ []) ∷ []
-
-abbrev pub groups : Db
-groups =
-    over (declared (codes "g") (integer_column (codes "id") ∷ text_column (codes "k") ∷ record { name = codes "v"; kind = kind.Int; nullable = true } ∷ []) (Some (0 ∷ [])) None)
-    group_rows ∷ []
 
 -- SELECT k, COUNT(*), COUNT(v), SUM(v) FROM g GROUP BY k
 abbrev pub grouped_rows : Tree
 grouped_rows =
-    Project (Group (Scan 0 (label (codes "g") (codes "g"))) (1 ∷ []) (aggregate.CountAll ∷ aggregate.Count 2 ∷ aggregate.Sum 2 ∷ []))
-    (0 ∷ 1 ∷ 2 ∷ 3 ∷ [])
+    Over (Project (0 ∷ 1 ∷ 2 ∷ 3 ∷ []))
+    (Over (Group (1 ∷ []) (aggregate.CountAll ∷ aggregate.Count 2 ∷ aggregate.Sum 2 ∷ [])) (Scan 0 (label (codes "g") (codes "g"))))
 
 -- the same HAVING SUM(v) > 1
 abbrev pub grouped_few : Tree
 grouped_few =
-    Project (Filter (Group (Scan 0 (label (codes "g") (codes "g"))) (1 ∷ []) (aggregate.CountAll ∷ aggregate.Count 2 ∷ aggregate.Sum 2 ∷ []))
-    (against comparison.Greater 3 1)) (0 ∷ 1 ∷ 2 ∷ 3 ∷ [])
+    Over (Project (0 ∷ 1 ∷ 2 ∷ 3 ∷ []))
+    (Over (Filter (against comparison.Greater 3 1))
+    (Over (Group (1 ∷ []) (aggregate.CountAll ∷ aggregate.Count 2 ∷ aggregate.Sum 2 ∷ [])) (Scan 0 (label (codes "g") (codes "g")))))
 
 -- SELECT DISTINCT k FROM g ORDER BY k DESC
 abbrev pub distinct_rows : Tree
 distinct_rows =
-    Sort (Group (Project (Scan 0 (label (codes "g") (codes "g"))) (1 ∷ [])) (0 ∷ []) []) (record { column = 0; descending = true } ∷ [])
+    Over (Sort (record { column = 0; descending = true } ∷ []))
+    (Over (Group (0 ∷ []) []) (Over (Project (1 ∷ [])) (Scan 0 (label (codes "g") (codes "g")))))
 
 -- SELECT x.id FROM g x JOIN g y ON x.k = y.k
 abbrev pub paired_rows : Tree
 paired_rows =
-    Project (Hash (Scan 0 (label (codes "g") (codes "x"))) (Scan 0 (label (codes "g") (codes "y"))) (pair 1 1) (flags false false)) (0 ∷ [])
+    Over (Project (0 ∷ []))
+    (Join (Hash false) (on (pair 1 1) (flags false false)) (Scan 0 (label (codes "g") (codes "x"))) (Scan 0 (label (codes "g") (codes "y"))))

@@ -1,7 +1,0 @@
-use Rattle.std.proofs.Common.{◌≡◌, take, string_bytes}
-use Rattle.pm_plan.specs.PlanLines.{plan_lines}
-use Rattle.pm_plan.proofs.text.plan_text.Given as goal
-
--- the lines so far stand in the text
-abbrev pub invariant-loop-place : goal.invariant-loop-place
-invariant-loop-place l = string_bytes l.out ≡ plan_lines 1 (take l.place l.plan.nodes)
