@@ -1,7 +1,7 @@
 -- what the declarations of a valid plan say of its rows: keys that differ, left rows that have a match, and keys that ascend
 use Rattle.std.specs.Prelude.{◌≡◌, ℕ, ◌<◌, ◌≤◌, true, false, List, length, All}
 use Rattle.pm_values.specs.Row.{Row}
-use Rattle.pm_values.specs.Order.{Ascends, pick_at}
+use Rattle.pm_values.specs.Order.{Ascends, key_at}
 use Rattle.pm_values.specs.Equality.{same_key}
 use Rattle.pm_plan.specs.declared.plan.Pair.{Pair}
 use Rattle.pm_plan.specs.Rows.{Db, table_rows}
@@ -11,7 +11,7 @@ use Rattle.pm_plan.specs.Outputs.{output}
 
 -- no two rows agree in these columns and hold no NULL there
 abbrev pub KeysDiffer : List ℕ → List Row → Type 0
-KeysDiffer columns rows = (i j : ℕ) → i < j → j < length rows → same_key (pick_at columns rows i) (pick_at columns rows j) ≡ false
+KeysDiffer columns rows = (i j : ℕ) → i < j → j < length rows → same_key (key_at columns rows i) (key_at columns rows j) ≡ false
 
 -- at most one row has a key in these columns
 abbrev pub AtMostOne : List ℕ → List Row → Type 0

@@ -6,5 +6,4 @@ pub mod Orderly
 pub mod Facts
 pub mod First
 pub mod Fits
-pub mod Evaluation
 pub mod Worked

@@ -2,13 +2,4 @@
 //! whole work, counted in rows (the getnext model of work of Chaudhuri, Narasayya and Ramamurthy, SIGMOD 2004).
 #![tactic(auto)]
 
-pub mod declared;
-mod evaluation;
-pub mod laws;
-pub mod worked;
-
-pub use declared::tables_are_declared;
-pub use evaluation::count_whole;
-
-#[cfg(test)]
-mod tests;
+mod worked;

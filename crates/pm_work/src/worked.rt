@@ -1,10 +1,12 @@
 //! Worked examples of the definitions, each the contract of a function that does nothing: they are proved by computing.
-ghost use Rattle.std.specs.Prelude.{◌≡◌, [], ◌∷◌, codes};
+ghost use Rattle.std.specs.Prelude.{◌≡◌, [], ◌∷◌, codes, None};
 ghost use Rattle.pm_values.specs.declared.value.Value.TheVariants.{Null, Text};
 ghost use Rattle.pm_plan.specs.Outputs.{output};
 ghost use Rattle.pm_work.specs.Events.{trace};
 ghost use Rattle.pm_work.specs.Work.{whole_work, scanned_rows};
-ghost use Rattle.pm_work.specs.Worked.{number, shop, ordered_shop, no_orders, customers_alone, orders_alone, few_and_many, keyless, groups, hashed, sought_rows, sought_all, merged_rows, merged_few, counted, order_ids, customers_from_two, summed, looked_up, keyless_join, grouped_rows, grouped_few, distinct_rows, paired_rows};
+ghost use Rattle.pm_plan.specs.Worked.{number, shop, ordered_shop, no_orders, customers_alone, orders_alone, customers_first, referring_shop, few_and_many, keyless, groups};
+ghost use Rattle.pm_work.specs.First.{first_sum, too_wide};
+ghost use Rattle.pm_work.specs.Worked.{hashed, sought_rows, sought_all, merged_rows, merged_few, counted, order_ids, customers_from_two, summed, looked_up, keyless_join, grouped_rows, grouped_few, distinct_rows, paired_rows, total_join, padded_join};
 
 /// A hash join reads its right side first, and then hands out its matches right after each row of its left side.
 pub fn hash_join_worked()
@@ -70,4 +72,14 @@ pub fn sort_worked()
     ensures rows { output orders_alone summed ≡ (number 1 ∷ number 12 ∷ []) ∷ (number 3 ∷ number 9 ∷ []) ∷ (number 9 ∷ number 1 ∷ []) ∷ [] }
     ensures trace { trace orders_alone summed ≡ 4 ∷ 4 ∷ 4 ∷ 4 ∷ 3 ∷ 3 ∷ 3 ∷ 2 ∷ 1 ∷ 2 ∷ 1 ∷ 2 ∷ 1 ∷ [] }
     ensures work { whole_work orders_alone summed ≡ 13 }
+{}
+
+/// A left join hands out a left row without a match once, with NULLs.
+pub fn left_join_worked()
+    ensures trace { trace customers_first padded_join ≡ 4 ∷ 4 ∷ 4 ∷ 4 ∷ 3 ∷ 2 ∷ 1 ∷ 2 ∷ 1 ∷ 3 ∷ 2 ∷ 1 ∷ 3 ∷ 2 ∷ 1 ∷ [] }
+    ensures work { whole_work customers_first padded_join ≡ 15 }
+    ensures rows { output customers_first padded_join ≡ (Text (codes "Ann") ∷ number 5 ∷ []) ∷ (Text (codes "Ann") ∷ number 7 ∷ []) ∷ (Text (codes "Bob") ∷ Null ∷ []) ∷ (Text (codes "Cy") ∷ number 9 ∷ []) ∷ [] }
+    ensures first { first_sum (3 ∷ 4 ∷ []) padded_join ≡ 21 }
+    ensures narrow { too_wide (3 ∷ 4 ∷ []) padded_join ≡ None }
+    ensures total { first_sum (3 ∷ 3 ∷ []) total_join ≡ 12 }
 {}

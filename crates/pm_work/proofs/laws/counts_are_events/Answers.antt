@@ -1,5 +1,0 @@
-use Rattle.pm_work.proofs.Totals.{counts-moment}
-use Rattle.pm_work.proofs.laws.counts_are_events.Goals as goal
-
-pub returns : goal.returns
-returns c = counts-moment
