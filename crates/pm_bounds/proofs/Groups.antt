@@ -1,5 +1,5 @@
 -- how many groups rows make
-use Rattle.std.proofs.Common.{◌≡◌, ℕ, suc, zero, ◌+◌, ◌-◌, ◌<◌, ◌≤◌, true, false, cond, not, List, [], ◌∷◌, ◌++◌, length, map, take, drop, min, refl, ap, ◌∙◌, inl, inr, arith, length-append, length-drop, length-take}
+use Rattle.std.proofs.Common.{◌≡◌, ℕ, suc, zero, ◌+◌, ◌-◌, ◌<◌, ◌≤◌, Bool, true, false, cond, not, List, [], ◌∷◌, ◌++◌, length, map, take, drop, min, refl, ap, ◌∙◌, inl, inr, arith, length-append, length-drop, length-take}
 use Rattle.std.specs.List.{filter}
 use Rattle.std.proofs.lemmas.List.{length-map, map-append, take-append-drop}
 use Rattle.std.proofs.lemmas.List.Elements.{filter-append}
@@ -9,6 +9,7 @@ use Rattle.pm_values.specs.Row.{Row, pick}
 use Rattle.pm_values.specs.Equality.{same_values}
 use Rattle.pm_plan.specs.declared.plan.Aggregate.{Aggregate}
 use Rattle.pm_values.specs.Keys.{once, different_keys}
+use Rattle.pm_values.proofs.KeyCounts.{length-filter_le, length-once_le}
 use Rattle.pm_plan.specs.Grouping.{group_keys, group_row, grouped}
 
 -- a number grows by at most so much
@@ -19,11 +20,6 @@ GrowsBy most a b = (a ≤ b) × (b ≤ a + most)
 abbrev pub groups_in : List ℕ → List Row → ℕ
 groups_in [] rows = 1
 groups_in (key ∷ keys) rows = length (group_keys (key ∷ keys) rows)
-
-pub length-filter_le : (p : Row → Bool) (xs : List Row) → length (filter p xs) ≤ length xs
-length-filter_le p [] = omega arith
-length-filter_le p (x ∷ xs) =
-    elim (p x) as (λ t. length (cond t (x ∷ filter p xs) (filter p xs)) ≤ suc (length xs)) [ true ↦ omega (arith, length-filter_le p xs) | false ↦ omega (arith, length-filter_le p xs) ]
 
 -- those that are not the same as one of the first list
 abbrev unlike : List Row → List Row → List Row
@@ -40,10 +36,6 @@ once-append (x ∷ xs) ys =
     ap (λ s. x ∷ filter (λ y. not (same_values x y)) s) (once-append xs ys)
     ∙ ap (λ s. x ∷ s) (filter-append (λ y. not (same_values x y)) (once same_values xs) (unlike xs (once same_values ys)))
 
-length-once : (xs : List Row) → length (once same_values xs) ≤ length xs
-length-once [] = omega arith
-length-once (x ∷ xs) = omega (arith, length-filter_le (λ y. not (same_values x y)) (once same_values xs), length-once xs)
-
 -- more rows make no fewer groups, and at most one more for each row
 keys_append : (keys : List ℕ) (xs ys : List Row)
     → GrowsBy (length ys) (length (group_keys keys xs)) (length (group_keys keys (xs ++ ys)))
@@ -52,7 +44,7 @@ keys_append keys xs ys =
     ap (once same_values) (map-append (pick keys) xs ys) ∙ once-append (map (pick keys) xs) (map (pick keys) ys) in
     let sum = length-append (group_keys keys xs) (unlike (map (pick keys) xs) (group_keys keys ys)) in
     let few = length-unlike (map (pick keys) xs) (group_keys keys ys) in
-    let fewer = length-once (map (pick keys) ys) in
+    let fewer = length-once_le same_values (map (pick keys) ys) in
     (omega (arith, ap length parts, sum), omega (arith, ap length parts, sum, few, fewer, length-map ys (pick keys)))
 
 pub groups_cut : (keys : List ℕ) (k : ℕ) (rows : List Row) → GrowsBy (length rows - k) (groups_in keys (take k rows)) (groups_in keys rows)
