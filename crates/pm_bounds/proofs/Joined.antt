@@ -65,18 +65,18 @@ module _ (on : On) (ls rs : List Row) (flags : FlagsHold on ls rs) where
 
 -- ---- the lower bound where each left row may be known to have a match
 
-abbrev matched : Bool → ℕ → ℕ → ℕ
+abbrev pub matched : Bool → ℕ → ℕ → ℕ
 matched flag s l = if flag then max s l else s
 
-matched_counts : (flag : Bool) (s l : ℕ) → s ≤ matched flag s l
+pub matched_counts : (flag : Bool) (s l : ℕ) → s ≤ matched flag s l
 matched_counts true s l = omega arith
 matched_counts false s l = omega arith
 
-matched_below : (flag : Bool) (s l all : ℕ) → s ≤ all → (flag ≡ true → l ≤ all) → matched flag s l ≤ all
+pub matched_below : (flag : Bool) (s l all : ℕ) → s ≤ all → (flag ≡ true → l ≤ all) → matched flag s l ≤ all
 matched_below true s l all a b = omega (arith, a, b refl)
 matched_below false s l all a b = a
 
-matched_mono : (flag : Bool) (s l s' l' : ℕ) → s ≤ s' → l ≤ l' → matched flag s l ≤ matched flag s' l'
+pub matched_mono : (flag : Bool) (s l s' l' : ℕ) → s ≤ s' → l ≤ l' → matched flag s l ≤ matched flag s' l'
 matched_mono true s l s' l' a b = omega (arith, a, b)
 matched_mono false s l s' l' a b = a
 
