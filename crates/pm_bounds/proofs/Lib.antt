@@ -5,3 +5,5 @@ pub mod Joined
 pub mod Sought
 pub mod Enclosed
 pub mod Narrow
+pub mod First
+pub mod Exact
