@@ -7,3 +7,5 @@ pub mod Enclosed
 pub mod Narrow
 pub mod First
 pub mod Exact
+pub mod Wholes
+pub mod BoundLists

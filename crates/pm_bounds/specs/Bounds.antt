@@ -82,6 +82,9 @@ lo_whole tree G = sum_at (λ t n. lo t n G) (λ left seek n. lo_of_seek left see
 abbrev pub hi_whole : Tree → Gauges → ℕ
 hi_whole tree G = sum_at (λ t n. hi t n G) (λ left seek n. hi_of_seek left seek n G) tree 1
 
+abbrev pub whole_bound : Tree → Gauges → Bound
+whole_bound tree G = record { lo = lo_whole tree G; hi = hi_whole tree G }
+
 abbrev pub whole_of : Tree → Gauges → Whole
 whole_of tree G = record { work = work_done tree G; lo = lo_whole tree G; hi = hi_whole tree G }
 
