@@ -9,3 +9,4 @@ pub mod First
 pub mod Exact
 pub mod Wholes
 pub mod BoundLists
+pub mod Caps
