@@ -10,3 +10,4 @@ pub mod Exact
 pub mod Wholes
 pub mod BoundLists
 pub mod Caps
+pub mod CapsHold
