@@ -1,5 +1,6 @@
 pub mod Answer
-pub mod Places
+pub mod Columns
 pub mod Pairs
 pub mod Build
+pub mod Bound
 pub mod Worked

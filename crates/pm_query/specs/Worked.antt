@@ -1,12 +1,12 @@
 -- queries for worked examples
-use Rattle.std.specs.Prelude.{ℕ, true, false, List, [], ◌∷◌, Option, None, Some, codes}
+use Rattle.std.specs.Prelude.{ℕ, true, false, List, [], ◌∷◌, map, Option, None, Some, codes}
 use Rattle.pm_values.specs.declared.condition.Comparison.TheVariants as comparison
 use Rattle.pm_values.specs.declared.condition.Operand.TheVariants as operand
 use Rattle.pm_values.specs.declared.condition.Cond.{Cond}
 use Rattle.pm_values.specs.declared.condition.Cond.TheVariants as cond
 use Rattle.pm_values.specs.Table.{Declaration}
 use Rattle.pm_plan.specs.declared.plan.Aggregate.TheVariants as aggregate
-use Rattle.pm_work.specs.Worked.{number, against, declared, integer_column, text_column, order_decl}
+use Rattle.pm_plan.specs.Worked.{number, against, declared, integer_column, text_column, order_decl, customer_decl}
 use Rattle.pm_query.specs.declared.query.QueryTable.{QueryTable}
 use Rattle.pm_query.specs.declared.query.QuerySource.{QuerySource}
 use Rattle.pm_query.specs.declared.query.Conjunct.{Conjunct}
@@ -16,7 +16,11 @@ abbrev pub table_at : ℕ → Declaration → QueryTable
 table_at place decl = record { place = place; decl = decl }
 
 abbrev pub source : ℕ → List ℕ → QuerySource
-source table alias = record { table = table; alias = alias }
+source table alias = record { table = table; alias = alias; left = false }
+
+-- after LEFT JOIN
+abbrev pub left_source : ℕ → List ℕ → QuerySource
+left_source table alias = record { table = table; alias = alias; left = true }
 
 abbrev pub conjunct : Option ℕ → Cond → Conjunct
 conjunct on c = record { on = on; cond = c }
@@ -52,6 +56,10 @@ orders_with_names orders customers further = record {
 abbrev pub large_orders : Declaration → Declaration → Query
 large_orders orders customers = orders_with_names orders customers (conjunct None (against comparison.Greater 2 5) ∷ [])
 
+-- a head for each output
+abbrev pub some_heads : List ℕ → List (List ℕ)
+some_heads outputs = map (λ output. codes "x") outputs
+
 -- of one table, named as it is declared, without conditions
 abbrev pub of_table : Declaration → List ℕ → Query
 of_table decl outputs = record {
@@ -63,7 +71,7 @@ of_table decl outputs = record {
   aggregates = [];
   having = None;
   outputs = outputs;
-  heads = [];
+  heads = some_heads outputs;
   orders = [];
   distinct = false;
 }
@@ -154,4 +162,37 @@ two_orders pairs =
       tables = table_at 0 (twice_ordered (codes "t")) ∷ table_at 1 (twice_ordered (codes "u")) ∷ [];
       sources = source 0 (codes "x") ∷ source 1 (codes "y") ∷ [];
       conjuncts = pairs;
+    }
+
+-- ---- left joins and references
+
+-- SELECT c.name, o.amt FROM cust c LEFT JOIN ord o ON o.cust = c.id, and these further conditions
+abbrev pub customers_left_joined : List Conjunct → Query
+customers_left_joined further =
+    record (of_table customer_decl (1 ∷ 4 ∷ [])) {
+      tables = table_at 0 customer_decl ∷ table_at 1 order_decl ∷ [];
+      sources = source 0 (codes "c") ∷ left_source 1 (codes "o") ∷ [];
+      conjuncts = conjunct (Some 1) (equal 3 0) ∷ further;
+    }
+
+-- the orders with their customer, and the orders again by their id
+abbrev pub orders_twice : Query
+orders_twice =
+    record (of_table order_decl (0 ∷ [])) {
+      tables = table_at 0 order_decl ∷ table_at 1 customer_decl ∷ [];
+      sources = source 0 (codes "o") ∷ source 1 (codes "c") ∷ source 0 (codes "p") ∷ [];
+      conjuncts = conjunct (Some 1) (equal 1 3) ∷ conjunct (Some 2) (equal 0 5) ∷ [];
+    }
+
+-- two tables without a KEY, and one with one
+abbrev pub keyless_and_keyed : Query
+keyless_and_keyed =
+    record (of_table (declared (codes "a") (integer_column (codes "x") ∷ []) None None) (0 ∷ [])) {
+      tables =
+          table_at 0 (declared (codes "a") (integer_column (codes "x") ∷ []) None None)
+          ∷ table_at 1 (declared (codes "b") (integer_column (codes "x") ∷ []) None None)
+          ∷ table_at 2 (declared (codes "big") (integer_column (codes "id") ∷ []) (Some (0 ∷ [])) None)
+          ∷ [];
+      sources = source 0 (codes "a") ∷ source 1 (codes "b") ∷ source 2 (codes "c") ∷ [];
+      conjuncts = conjunct (Some 1) (equal 0 1) ∷ conjunct (Some 2) (equal 0 2) ∷ [];
     }

@@ -3,8 +3,8 @@
 //! The rows of a query are said of the tables alone and know nothing of a plan.
 #![tactic(auto)]
 
-pub mod query;
-pub mod worked;
+mod query;
+mod worked;
 
 pub use query::{
     Call, Calls, Choice, Conjunct, Conjuncts, Query, QueryOrder, QueryOrders, QuerySource,

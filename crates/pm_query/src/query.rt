@@ -1,28 +1,31 @@
+//! A statement whose names are resolved.
 use pm_plan::{Aggregate, Aggregates, SortKey, SortKeys};
 use pm_values::{Columns, Cond, Items, Names, TableDecl, Txt};
 
-/// A table of FROM: its place in the schema, from 0, and its declaration.
+/// A table of FROM: its position in the schema, from 0, and its declaration.
 #[derive(Debug, Drop)]
 pub struct QueryTable {
     pub place: u32,
     pub decl: TableDecl,
 }
 
-/// The tables of FROM, each once, in the order in which they first appear. Their places in this list are the places of
+/// The tables of FROM, each once, in the order in which they first appear. Their positions in this list are those of
 /// their rows in a database, and the table numbers of a plan.
 pub type QueryTables = Items<QueryTable>;
 
-/// An entry of FROM: the place of its table in the query's tables, and its alias, given or taken from the table.
+/// An entry of FROM: the position of its table in the query's tables, its alias, given or taken from the table, and
+/// whether it stands after LEFT JOIN.
 #[derive(Debug, Drop)]
 pub struct QuerySource {
     pub table: u32,
     pub alias: Txt,
+    pub left: bool,
 }
 
 /// The entries of FROM, in order.
 pub type QuerySources = Items<QuerySource>;
 
-/// One of the conditions that all have to be true: a member of WHERE, or of the ON of the source at this place.
+/// One of the conditions that all have to be true: a member of WHERE, or of the ON of the source at this position.
 #[derive(Debug, Drop)]
 pub struct Conjunct {
     pub on: Option<u32>,
@@ -47,8 +50,8 @@ pub type QueryOrders = SortKeys;
 
 /// A statement whose names are resolved.
 ///
-/// Columns in `conjuncts`, `keys` and `aggregates` are places, from 0, in the row of all columns of all sources in
-/// order. Columns in `having`, `outputs` and `orders` are places in the same row, or in a grouped query in the row of
+/// Columns in `conjuncts`, `keys` and `aggregates` are positions, from 0, in the row of all columns of all sources in
+/// order. Columns in `having`, `outputs` and `orders` are positions in the same row, or in a grouped query in the row of
 /// the keys followed by the aggregates. `keys` and `aggregates` hold each entry once.
 #[derive(Debug, Drop)]
 pub struct Query {

@@ -5,12 +5,13 @@ ghost use Rattle.pm_values.specs.declared.condition.Comparison.TheVariants as co
 ghost use Rattle.pm_values.specs.declared.value.Value.TheVariants.{Null, Text};
 ghost use Rattle.pm_plan.specs.declared.plan.Node.TheVariants as node;
 ghost use Rattle.pm_values.specs.declared.condition.Cond.TheVariants as cond;
-ghost use Rattle.pm_plan.specs.Tree.{Project, Filter, Hash, Merge, Index, Scan};
-ghost use Rattle.pm_work.specs.Worked.{number, label, pair, flags, against, order_decl, customer_decl, ordered_order_decl, ordered_customer_decl, shop, ordered_shop, no_orders, orders_alone, groups, hashed, sought_rows, sought_all, merged_rows, merged_few, counted, summed, looked_up, grouped_few, distinct_rows};
+ghost use Rattle.pm_plan.specs.Tree.{Project, Filter, Hash, Merge, Tree, Scan, Over, Join, Index};
+ghost use Rattle.pm_plan.specs.Worked.{number, label, pair, flags, on, against, order_decl, customer_decl, ordered_order_decl, ordered_customer_decl, referring_order_decl, shop, customers_first, no_orders, orders_alone, groups};
+ghost use Rattle.pm_work.specs.Worked.{hashed, sought_rows, sought_all, merged_rows, merged_few, counted, summed, looked_up, grouped_few, distinct_rows, total_join, padded_join};
 ghost use Rattle.pm_query.specs.declared.query.Choice.TheVariants as choice;
 ghost use Rattle.pm_query.specs.Answer.{answer};
 ghost use Rattle.pm_query.specs.Build.{tree_for, plan_for};
-ghost use Rattle.pm_query.specs.Worked.{conjunct, orders_with_names, large_orders, sums_by_key, different_keys, sums_by_customer, order_count, few_in_many, priced_items, equal, column_less, numbers_less, three_sources, two_orders};
+ghost use Rattle.pm_query.specs.Worked.{conjunct, orders_with_names, large_orders, sums_by_key, different_keys, sums_by_customer, order_count, few_in_many, priced_items, equal, column_less, numbers_less, three_sources, two_orders, customers_left_joined, orders_twice, keyless_and_keyed};
 
 /// A join with a condition on its left side: by a hash table, by an index, and by merging where both tables have an ORDER.
 pub fn joins_worked()
@@ -26,12 +27,12 @@ pub fn joins_worked()
 /// A table with a KEY is looked up where its left side is at most an eighth of it.
 pub fn index_worked()
     ensures small { tree_for few_in_many (2 ∷ 16 ∷ []) choice.Auto ≡ looked_up }
-    ensures large { tree_for few_in_many (2 ∷ 15 ∷ []) choice.Auto ≡ Project (Hash (Scan 0 (label (codes "one") (codes "a"))) (Scan 1 (label (codes "big") (codes "b"))) (pair 0 0) (flags false true)) (1 ∷ []) }
+    ensures large { tree_for few_in_many (2 ∷ 15 ∷ []) choice.Auto ≡ Over (Project (1 ∷ [])) (Join (Hash false) (on (pair 0 0) (flags false true)) (Scan 0 (label (codes "one") (codes "a"))) (Scan 1 (label (codes "big") (codes "b")))) }
 {}
 
 /// A side is unique only where its whole KEY is among the columns of the pairs.
 pub fn flags_worked()
-    ensures { tree_for priced_items (2 ∷ 9 ∷ []) choice.Hash ≡ Project (Hash (Scan 0 (label (codes "item") (codes "i"))) (Scan 1 (label (codes "price") (codes "p"))) (pair 0 0) (flags true false)) (0 ∷ 3 ∷ []) }
+    ensures { tree_for priced_items (2 ∷ 9 ∷ []) choice.Hash ≡ Over (Project (0 ∷ 3 ∷ [])) (Join (Hash false) (on (pair 0 0) (flags true false)) (Scan 0 (label (codes "item") (codes "i"))) (Scan 1 (label (codes "price") (codes "p")))) }
 {}
 
 /// Grouping, HAVING, DISTINCT and ORDER BY.
@@ -50,14 +51,14 @@ pub fn groups_worked()
 /// source goes to that source, on its own columns below a hash join and on the joined row at an index join; what no
 /// source takes stands on top, in the order of the text.
 pub fn three_sources_worked()
-    ensures hash { tree_for three_sources (4 ∷ 3 ∷ 2 ∷ []) choice.Hash ≡ Project (Filter (Hash (Hash (Scan 0 (label (codes "ord") (codes "o"))) (Filter (Scan 1 (label (codes "client") (codes "c"))) (against comparison.Greater 0 1)) (pair 1 0) (flags false true)) (Scan 2 (label (codes "region") (codes "r"))) (pair 4 0) (flags false true)) (cond.All (column_less 2 5 ∷ numbers_less ∷ []))) (0 ∷ 6 ∷ []) }
-    ensures index { tree_for three_sources (4 ∷ 3 ∷ 2 ∷ []) choice.Index ≡ Project (Filter (Index (Index (Scan 0 (label (codes "ord") (codes "o"))) (record { table = 1; label = label (codes "client") (codes "c"); pairs = pair 1 0; unique = flags false true }) (Some (against comparison.Greater 3 1))) (record { table = 2; label = label (codes "region") (codes "r"); pairs = pair 4 0; unique = flags false true }) None) (cond.All (column_less 2 5 ∷ numbers_less ∷ []))) (0 ∷ 6 ∷ []) }
+    ensures hash { tree_for three_sources (4 ∷ 3 ∷ 2 ∷ []) choice.Hash ≡ Over (Project (0 ∷ 6 ∷ [])) (Over (Filter (cond.All (column_less 2 5 ∷ numbers_less ∷ []))) (Join (Hash false) (on (pair 4 0) (flags false true)) (Join (Hash false) (on (pair 1 0) (flags false true)) (Scan 0 (label (codes "ord") (codes "o"))) (Over (Filter (against comparison.Greater 0 1)) (Scan 1 (label (codes "client") (codes "c"))))) (Scan 2 (label (codes "region") (codes "r"))))) }
+    ensures index { tree_for three_sources (4 ∷ 3 ∷ 2 ∷ []) choice.Index ≡ Over (Project (0 ∷ 6 ∷ [])) (Over (Filter (cond.All (column_less 2 5 ∷ numbers_less ∷ []))) (Index (Index (Scan 0 (label (codes "ord") (codes "o"))) (record { table = 1; label = label (codes "client") (codes "c"); on = on (pair 1 0) (flags false true) }) (Some (against comparison.Greater 3 1))) (record { table = 2; label = label (codes "region") (codes "r"); on = on (pair 4 0) (flags false true) }) None)) }
 {}
 
 /// A merge join takes its pairs in the order of the two ORDERs, whose first columns they are; where they are not, a hash
 /// join takes them in the order of the text.
 pub fn orders_worked()
-    ensures both { tree_for (two_orders (conjunct (Some 1) (equal 0 3) ∷ conjunct (Some 1) (equal 1 4) ∷ [])) (2 ∷ 2 ∷ []) choice.Auto ≡ Project (Merge (Scan 0 (label (codes "t") (codes "x"))) (Scan 1 (label (codes "u") (codes "y"))) (record { left = 1; right = 1 } ∷ record { left = 0; right = 0 } ∷ []) (flags false false)) (0 ∷ []) }
-    ensures first { tree_for (two_orders (conjunct (Some 1) (equal 4 1) ∷ [])) (2 ∷ 2 ∷ []) choice.Merge ≡ Project (Merge (Scan 0 (label (codes "t") (codes "x"))) (Scan 1 (label (codes "u") (codes "y"))) (pair 1 1) (flags false false)) (0 ∷ []) }
-    ensures second_alone { tree_for (two_orders (conjunct (Some 1) (equal 0 3) ∷ [])) (2 ∷ 2 ∷ []) choice.Merge ≡ Project (Hash (Scan 0 (label (codes "t") (codes "x"))) (Scan 1 (label (codes "u") (codes "y"))) (pair 0 0) (flags false false)) (0 ∷ []) }
+    ensures both { tree_for (two_orders (conjunct (Some 1) (equal 0 3) ∷ conjunct (Some 1) (equal 1 4) ∷ [])) (2 ∷ 2 ∷ []) choice.Auto ≡ Over (Project (0 ∷ [])) (Join Merge (on (record { left = 1; right = 1 } ∷ record { left = 0; right = 0 } ∷ []) (flags false false)) (Scan 0 (label (codes "t") (codes "x"))) (Scan 1 (label (codes "u") (codes "y")))) }
+    ensures first { tree_for (two_orders (conjunct (Some 1) (equal 4 1) ∷ [])) (2 ∷ 2 ∷ []) choice.Merge ≡ Over (Project (0 ∷ [])) (Join Merge (on (pair 1 1) (flags false false)) (Scan 0 (label (codes "t") (codes "x"))) (Scan 1 (label (codes "u") (codes "y")))) }
+    ensures second_alone { tree_for (two_orders (conjunct (Some 1) (equal 0 3) ∷ [])) (2 ∷ 2 ∷ []) choice.Merge ≡ Over (Project (0 ∷ [])) (Join (Hash false) (on (pair 0 0) (flags false false)) (Scan 0 (label (codes "t") (codes "x"))) (Scan 1 (label (codes "u") (codes "y")))) }
 {}

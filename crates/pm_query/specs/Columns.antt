@@ -38,20 +38,20 @@ within_layer from to (layer.IsNull of) = operand_within from to of
 abbrev pub within : ℕ → ℕ → Cond → Bool
 within from to = fold-Cond Bool (within_layer from to)
 
-abbrev pub operand_lowered : ℕ → Operand → Operand
-operand_lowered by (operand.Column at scale) = operand.Column (at - by) scale
-operand_lowered by (operand.Literal value scale) = operand.Literal value scale
+abbrev pub shift_operand : ℕ → Operand → Operand
+shift_operand by (operand.Column at scale) = operand.Column (at - by) scale
+shift_operand by (operand.Literal value scale) = operand.Literal value scale
 
-abbrev pub lowered_layer : ℕ → Cond-F Cond → Cond
-lowered_layer by (layer.All members) = cond.All members
-lowered_layer by (layer.Any members) = cond.Any members
-lowered_layer by (layer.Not part) = cond.Not part
-lowered_layer by (layer.Compare how left right) = cond.Compare how (operand_lowered by left) (operand_lowered by right)
-lowered_layer by (layer.IsNull of) = cond.IsNull (operand_lowered by of)
+abbrev pub shift_layer : ℕ → Cond-F Cond → Cond
+shift_layer by (layer.All members) = cond.All members
+shift_layer by (layer.Any members) = cond.Any members
+shift_layer by (layer.Not part) = cond.Not part
+shift_layer by (layer.Compare how left right) = cond.Compare how (shift_operand by left) (shift_operand by right)
+shift_layer by (layer.IsNull of) = cond.IsNull (shift_operand by of)
 
 -- the same condition on rows without their first values, so many
-abbrev pub lowered : ℕ → Cond → Cond
-lowered by = fold-Cond Cond (lowered_layer by)
+abbrev pub shift_columns : ℕ → Cond → Cond
+shift_columns by = fold-Cond Cond (shift_layer by)
 
 -- none, the one, or one AND list of all
 abbrev pub conjunction : List Cond → Option Cond
