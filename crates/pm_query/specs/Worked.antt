@@ -6,6 +6,7 @@ use Rattle.pm_values.specs.declared.condition.Cond.{Cond}
 use Rattle.pm_values.specs.declared.condition.Cond.TheVariants as cond
 use Rattle.pm_values.specs.Table.{Declaration}
 use Rattle.pm_plan.specs.declared.plan.Aggregate.TheVariants as aggregate
+use Rattle.pm_plan.specs.declared.plan.SortKey.{SortKey}
 use Rattle.pm_plan.specs.Worked.{number, against, declared, integer_column, text_column, order_decl, customer_decl}
 use Rattle.pm_query.specs.declared.query.QueryTable.{QueryTable}
 use Rattle.pm_query.specs.declared.query.QuerySource.{QuerySource}
@@ -196,3 +197,28 @@ keyless_and_keyed =
       sources = source 0 (codes "a") ∷ source 1 (codes "b") ∷ source 2 (codes "c") ∷ [];
       conjuncts = conjunct (Some 1) (equal 0 1) ∷ conjunct (Some 2) (equal 0 2) ∷ [];
     }
+
+-- ---- order and groups
+
+-- SELECT id FROM ord in this order
+abbrev pub orders_sorted : List SortKey → Query
+orders_sorted keys = record (of_table order_decl (0 ∷ [])) { orders = keys }
+
+abbrev pub descending : ℕ → SortKey
+descending column = record { column = column; descending = true }
+
+-- SELECT MIN(v), MAX(v) FROM g GROUP BY k
+abbrev pub ranges_by_key : Query
+ranges_by_key = record (of_table group_decl (1 ∷ 2 ∷ [])) { grouped = true; keys = 1 ∷ []; aggregates = aggregate.Min 2 ∷ aggregate.Max 2 ∷ [] }
+
+-- SELECT COUNT(*) FROM ord HAVING COUNT(*) > 5
+abbrev pub many_orders : Query
+many_orders = record (of_table order_decl (0 ∷ [])) { grouped = true; aggregates = aggregate.CountAll ∷ []; having = Some (against comparison.Greater 0 5) }
+
+-- SELECT DISTINCT COUNT(*) FROM g GROUP BY k
+abbrev pub different_counts : Query
+different_counts = record (of_table group_decl (1 ∷ [])) { grouped = true; keys = 1 ∷ []; aggregates = aggregate.CountAll ∷ []; distinct = true }
+
+-- WHERE o.amt IS NULL
+abbrev pub no_amount : Conjunct
+no_amount = conjunct None (cond.IsNull (operand.Column 4 0))

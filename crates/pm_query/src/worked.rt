@@ -5,13 +5,15 @@ ghost use Rattle.pm_values.specs.declared.condition.Comparison.TheVariants as co
 ghost use Rattle.pm_values.specs.declared.value.Value.TheVariants.{Null, Text};
 ghost use Rattle.pm_plan.specs.declared.plan.Node.TheVariants as node;
 ghost use Rattle.pm_values.specs.declared.condition.Cond.TheVariants as cond;
+ghost use Rattle.pm_values.specs.declared.condition.Operand.TheVariants as operand;
 ghost use Rattle.pm_plan.specs.Tree.{Project, Filter, Hash, Merge, Tree, Scan, Over, Join, Index};
 ghost use Rattle.pm_plan.specs.Worked.{number, label, pair, flags, on, against, order_decl, customer_decl, ordered_order_decl, ordered_customer_decl, referring_order_decl, shop, customers_first, no_orders, orders_alone, groups};
 ghost use Rattle.pm_work.specs.Worked.{hashed, sought_rows, sought_all, merged_rows, merged_few, counted, summed, looked_up, grouped_few, distinct_rows, total_join, padded_join};
 ghost use Rattle.pm_query.specs.declared.query.Choice.TheVariants as choice;
 ghost use Rattle.pm_query.specs.Answer.{answer};
 ghost use Rattle.pm_query.specs.Build.{tree_for, plan_for};
-ghost use Rattle.pm_query.specs.Worked.{conjunct, orders_with_names, large_orders, sums_by_key, different_keys, sums_by_customer, order_count, few_in_many, priced_items, equal, column_less, numbers_less, three_sources, two_orders, customers_left_joined, orders_twice, keyless_and_keyed};
+ghost use Rattle.pm_query.specs.Bound.{IsBound};
+ghost use Rattle.pm_query.specs.Worked.{orders_sorted, descending, ranges_by_key, many_orders, different_counts, no_amount, conjunct, orders_with_names, large_orders, sums_by_key, different_keys, sums_by_customer, order_count, few_in_many, priced_items, equal, column_less, numbers_less, three_sources, two_orders, customers_left_joined, orders_twice, keyless_and_keyed};
 
 /// A join with a condition on its left side: by a hash table, by an index, and by merging where both tables have an ORDER.
 pub fn joins_worked()
@@ -61,4 +63,50 @@ pub fn orders_worked()
     ensures both { tree_for (two_orders (conjunct (Some 1) (equal 0 3) ∷ conjunct (Some 1) (equal 1 4) ∷ [])) (2 ∷ 2 ∷ []) choice.Auto ≡ Over (Project (0 ∷ [])) (Join Merge (on (record { left = 1; right = 1 } ∷ record { left = 0; right = 0 } ∷ []) (flags false false)) (Scan 0 (label (codes "t") (codes "x"))) (Scan 1 (label (codes "u") (codes "y")))) }
     ensures first { tree_for (two_orders (conjunct (Some 1) (equal 4 1) ∷ [])) (2 ∷ 2 ∷ []) choice.Merge ≡ Over (Project (0 ∷ [])) (Join Merge (on (pair 1 1) (flags false false)) (Scan 0 (label (codes "t") (codes "x"))) (Scan 1 (label (codes "u") (codes "y")))) }
     ensures second_alone { tree_for (two_orders (conjunct (Some 1) (equal 0 3) ∷ [])) (2 ∷ 2 ∷ []) choice.Merge ≡ Over (Project (0 ∷ [])) (Join (Hash false) (on (pair 0 0) (flags false false)) (Scan 0 (label (codes "t") (codes "x"))) (Scan 1 (label (codes "u") (codes "y")))) }
+{}
+
+/// A merge join comes before an index join, where both can be; an index join needs no KEY where it is asked for; the
+/// left side's first bound decides, not the first table's size.
+pub fn ways_worked()
+    ensures merge_first { tree_for (large_orders ordered_order_decl ordered_customer_decl) (4 ∷ 64 ∷ []) choice.Auto ≡ merged_rows }
+    ensures index_without_key { tree_for (two_orders (conjunct (Some 1) (equal 0 3) ∷ [])) (2 ∷ 2 ∷ []) choice.Index ≡ Over (Project (0 ∷ [])) (Index (Scan 0 (label (codes "t") (codes "x"))) (record { table = 1; label = label (codes "u") (codes "y"); on = on (pair 0 0) (flags false false) }) None) }
+    ensures two_pairs_one_order { tree_for (orders_with_names ordered_order_decl ordered_customer_decl (conjunct (Some 1) (equal 0 3) ∷ [])) (4 ∷ 3 ∷ []) choice.Merge ≡ Over (Project (4 ∷ 2 ∷ [])) (Join (Hash false) (on (record { left = 1; right = 0 } ∷ record { left = 0; right = 0 } ∷ []) (flags true true)) (Scan 0 (label (codes "ord") (codes "o"))) (Scan 1 (label (codes "cust") (codes "c")))) }
+    ensures small { tree_for keyless_and_keyed (2 ∷ 3 ∷ 48 ∷ []) choice.Auto ≡ Over (Project (0 ∷ [])) (Index (Join (Hash false) (on (pair 0 0) (flags false false)) (Scan 0 (label (codes "a") (codes "a"))) (Scan 1 (label (codes "b") (codes "b")))) (record { table = 2; label = label (codes "big") (codes "c"); on = on (pair 0 0) (flags false true) }) None) }
+    ensures large { tree_for keyless_and_keyed (2 ∷ 3 ∷ 47 ∷ []) choice.Auto ≡ Over (Project (0 ∷ [])) (Join (Hash false) (on (pair 0 0) (flags false true)) (Join (Hash false) (on (pair 0 0) (flags false false)) (Scan 0 (label (codes "a") (codes "a"))) (Scan 1 (label (codes "b") (codes "b")))) (Scan 2 (label (codes "big") (codes "c")))) }
+    ensures outer_unique { tree_for orders_twice (4 ∷ 3 ∷ []) choice.Hash ≡ Over (Project (0 ∷ [])) (Join (Hash false) (on (pair 0 0) (flags true true)) (Join (Hash false) (on (pair 1 0) (flags false true)) (Scan 0 (label (codes "ord") (codes "o"))) (Scan 1 (label (codes "cust") (codes "c")))) (Scan 0 (label (codes "ord") (codes "p")))) }
+{}
+
+/// Rows are sorted by the first key, and by the next one where that is equal, also by columns that are not selected; the
+/// least and the greatest value put NULL aside.
+pub fn order_worked()
+    ensures by_one { answer (orders_sorted (descending 1 ∷ [])) orders_alone ≡ (number 13 ∷ []) ∷ (number 12 ∷ []) ∷ (number 10 ∷ []) ∷ (number 11 ∷ []) ∷ [] }
+    ensures by_two { answer (orders_sorted (descending 1 ∷ descending 2 ∷ [])) orders_alone ≡ (number 13 ∷ []) ∷ (number 12 ∷ []) ∷ (number 11 ∷ []) ∷ (number 10 ∷ []) ∷ [] }
+    ensures ranges { answer ranges_by_key groups ≡ (number 1 ∷ number 5 ∷ []) ∷ (Null ∷ Null ∷ []) ∷ (number 2 ∷ number 2 ∷ []) ∷ [] }
+    ensures none { answer many_orders orders_alone ≡ [] }
+    ensures counts { answer different_counts groups ≡ (number 2 ∷ []) ∷ (number 1 ∷ []) ∷ [] }
+{}
+
+/// A source after LEFT JOIN is joined by a hash join that pads, whatever the choice; its ON is tested before NULLs are
+/// given, and WHERE after.
+pub fn left_join_worked()
+    ensures rows { answer (customers_left_joined []) customers_first ≡ (Text (codes "Ann") ∷ number 5 ∷ []) ∷ (Text (codes "Ann") ∷ number 7 ∷ []) ∷ (Text (codes "Bob") ∷ Null ∷ []) ∷ (Text (codes "Cy") ∷ number 9 ∷ []) ∷ [] }
+    ensures tree { tree_for (customers_left_joined []) (3 ∷ 4 ∷ []) choice.Index ≡ padded_join }
+    ensures unmatched { answer (customers_left_joined (no_amount ∷ [])) customers_first ≡ (Text (codes "Bob") ∷ Null ∷ []) ∷ [] }
+    ensures above { tree_for (customers_left_joined (no_amount ∷ [])) (3 ∷ 4 ∷ []) choice.Auto ≡ Over (Project (1 ∷ 4 ∷ [])) (Over (Filter (cond.IsNull (operand.Column 4 0))) (Join (Hash true) (on (pair 0 1) (flags true false)) (Scan 0 (label (codes "cust") (codes "c"))) (Scan 1 (label (codes "ord") (codes "o"))))) }
+    ensures own { tree_for (customers_left_joined (conjunct (Some 1) (against comparison.Greater 4 5) ∷ [])) (3 ∷ 4 ∷ []) choice.Auto ≡ Over (Project (1 ∷ 4 ∷ [])) (Join (Hash true) (on (pair 0 1) (flags true false)) (Scan 0 (label (codes "cust") (codes "c"))) (Over (Filter (against comparison.Greater 2 5)) (Scan 1 (label (codes "ord") (codes "o"))))) }
+{}
+
+/// A join along a reference is total, and is not where the right side is filtered.
+pub fn total_join_worked()
+    ensures total { tree_for (orders_with_names referring_order_decl customer_decl []) (3 ∷ 3 ∷ []) choice.Auto ≡ total_join }
+    ensures filtered { tree_for (orders_with_names referring_order_decl customer_decl (conjunct None (against comparison.Greater 3 1) ∷ [])) (3 ∷ 3 ∷ []) choice.Auto ≡ Over (Project (4 ∷ 2 ∷ [])) (Join (Hash false) (on (pair 1 0) (flags false true)) (Scan 0 (label (codes "ord") (codes "o"))) (Over (Filter (against comparison.Greater 0 1)) (Scan 1 (label (codes "cust") (codes "c"))))) }
+{}
+
+/// The queries of the examples are bound.
+pub fn queries_are_bound()
+    ensures joined { IsBound (large_orders order_decl customer_decl) }
+    ensures grouped { IsBound sums_by_key }
+    ensures distinct { IsBound different_keys }
+    ensures three { IsBound three_sources }
+    ensures padded { IsBound (customers_left_joined (no_amount ∷ [])) }
 {}
