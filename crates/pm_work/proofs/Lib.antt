@@ -1,0 +1,6 @@
+pub mod EventLists
+pub mod Merges
+pub mod Indexes
+pub mod Operators
+pub mod EventLaws
+pub mod Counting

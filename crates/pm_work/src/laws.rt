@@ -1,0 +1,23 @@
+//! The laws of the definitions, each the contract of a function that does nothing.
+ghost use Rattle.std.specs.Prelude.{◌≡◌, ℕ, ◌≤◌, length};
+ghost use Rattle.pm_plan.specs.Rows.{Db};
+ghost use Rattle.pm_plan.specs.Tree.{Tree, right_number, EachAt, sum_at};
+ghost use Rattle.pm_plan.specs.Outputs.{output, sought};
+ghost use Rattle.pm_work.specs.Events.{events, rows_at};
+ghost use Rattle.pm_work.specs.Work.{whole_work};
+ghost use Rattle.pm_work.specs.Moments.{counts_at};
+
+/// The events number the whole work; and the rows that they give each node, and each Seek, are what it hands out in all,
+/// in order.
+pub fn events_are_whole()
+    ensures work { (db : Db) (tree : Tree) → length (events db tree 1) ≡ whole_work db tree }
+    ensures rows { (db : Db) (tree : Tree) → rows_at 1 (events db tree 1) ≡ output db tree }
+    ensures rows_of_each { (db : Db) (tree : Tree) → EachAt (λ t n. rows_at n (events db tree 1) ≡ output db t)
+        (λ left seek n. rows_at (right_number n left) (events db tree 1) ≡ sought db seek (output db left)) tree 1 }
+{}
+
+/// At each moment the counts of all nodes and Seeks add up to the number of the events so far.
+pub fn counts_are_events()
+    ensures { (db : Db) (tree : Tree) (t : ℕ) → t ≤ whole_work db tree
+        → sum_at (λ u n. counts_at db tree t n) (λ left seek n. counts_at db tree t (right_number n left)) tree 1 ≡ t }
+{}
