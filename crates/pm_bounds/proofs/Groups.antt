@@ -1,5 +1,5 @@
--- how many groups rows make, and the bounds of a grouping from what is known of its child
-use Rattle.std.proofs.Common.{◌≡◌, ℕ, suc, zero, ◌+◌, ◌-◌, ◌<◌, ◌≤◌, not, List, [], ◌∷◌, ◌++◌, length, map, take, drop, min, refl, ap, ◌∙◌, inl, inr, arith, length-append, length-drop, length-take}
+-- how many groups rows make
+use Rattle.std.proofs.Common.{◌≡◌, ℕ, suc, zero, ◌+◌, ◌-◌, ◌<◌, ◌≤◌, true, false, cond, not, List, [], ◌∷◌, ◌++◌, length, map, take, drop, min, refl, ap, ◌∙◌, inl, inr, arith, length-append, length-drop, length-take}
 use Rattle.std.specs.List.{filter}
 use Rattle.std.proofs.lemmas.List.{length-map, map-append, take-append-drop}
 use Rattle.std.proofs.lemmas.List.Elements.{filter-append}
@@ -8,15 +8,22 @@ use Rattle.std.proofs.Math.Seq.{take-length}
 use Rattle.pm_values.specs.Row.{Row, pick}
 use Rattle.pm_values.specs.Equality.{same_values}
 use Rattle.pm_plan.specs.declared.plan.Aggregate.{Aggregate}
-use Rattle.pm_plan.specs.Grouping.{once, different_keys, group_row, grouped}
-use Rattle.pm_work.specs.Formulas.{group_lo, group_hi}
-use Rattle.pm_work.specs.Moments.{groups_in}
-use Rattle.pm_work.proofs.Joins.{length-filter_le}
-use Rattle.pm_bounds.specs.Enclosure.{Encloses}
+use Rattle.pm_values.specs.Keys.{once, different_keys}
+use Rattle.pm_plan.specs.Grouping.{group_keys, group_row, grouped}
 
 -- a number grows by at most so much
 abbrev pub GrowsBy : ℕ → ℕ → ℕ → Type 0
 GrowsBy most a b = (a ≤ b) × (b ≤ a + most)
+
+-- the groups of these rows; without keys one
+abbrev pub groups_in : List ℕ → List Row → ℕ
+groups_in [] rows = 1
+groups_in (key ∷ keys) rows = length (group_keys (key ∷ keys) rows)
+
+pub length-filter_le : (p : Row → Bool) (xs : List Row) → length (filter p xs) ≤ length xs
+length-filter_le p [] = omega arith
+length-filter_le p (x ∷ xs) =
+    elim (p x) as (λ t. length (cond t (x ∷ filter p xs) (filter p xs)) ≤ suc (length xs)) [ true ↦ omega (arith, length-filter_le p xs) | false ↦ omega (arith, length-filter_le p xs) ]
 
 -- those that are not the same as one of the first list
 abbrev unlike : List Row → List Row → List Row
@@ -39,12 +46,12 @@ length-once (x ∷ xs) = omega (arith, length-filter_le (λ y. not (same_values 
 
 -- more rows make no fewer groups, and at most one more for each row
 keys_append : (keys : List ℕ) (xs ys : List Row)
-    → GrowsBy (length ys) (length (different_keys keys xs)) (length (different_keys keys (xs ++ ys)))
+    → GrowsBy (length ys) (length (group_keys keys xs)) (length (group_keys keys (xs ++ ys)))
 keys_append keys xs ys =
-    let parts : different_keys keys (xs ++ ys) ≡ different_keys keys xs ++ unlike (map (pick keys) xs) (different_keys keys ys) =
+    let parts : group_keys keys (xs ++ ys) ≡ group_keys keys xs ++ unlike (map (pick keys) xs) (group_keys keys ys) =
     ap (once same_values) (map-append (pick keys) xs ys) ∙ once-append (map (pick keys) xs) (map (pick keys) ys) in
-    let sum = length-append (different_keys keys xs) (unlike (map (pick keys) xs) (different_keys keys ys)) in
-    let few = length-unlike (map (pick keys) xs) (different_keys keys ys) in
+    let sum = length-append (group_keys keys xs) (unlike (map (pick keys) xs) (group_keys keys ys)) in
+    let few = length-unlike (map (pick keys) xs) (group_keys keys ys) in
     let fewer = length-once (map (pick keys) ys) in
     (omega (arith, ap length parts, sum), omega (arith, ap length parts, sum, few, fewer, length-map ys (pick keys)))
 
@@ -68,42 +75,8 @@ groups_step keys k rows =
 
 pub length-grouped : (keys : List ℕ) (items : List Aggregate) (rows : List Row) → length (grouped keys items rows) ≡ groups_in keys rows
 length-grouped [] items rows = refl
-length-grouped (k ∷ ks) items rows = length-map (different_keys (k ∷ ks) rows) (group_row (k ∷ ks) items rows)
+length-grouped (k ∷ ks) items rows = length-map (group_keys (k ∷ ks) rows) (group_row (k ∷ ks) items rows)
 
-groups_some : (k : ℕ) (ks : List ℕ) (rows : List Row) → min 1 (length rows) ≤ groups_in (k ∷ ks) rows
+pub groups_some : (k : ℕ) (ks : List ℕ) (rows : List Row) → min 1 (length rows) ≤ groups_in (k ∷ ks) rows
 groups_some k ks [] = omega arith
 groups_some k ks (r ∷ rows) = omega arith
-
--- from the child's rows, its count and its bounds
-pub group_encloses : (keys : List ℕ) (rows : List Row) (count child l h : ℕ)
-    → count ≤ groups_in keys rows → (0 < count → child ≡ length rows) → l ≤ length rows → length rows ≤ h
-    → Encloses count (group_lo keys (groups_in keys (take child rows)) l) (groups_in keys rows) (group_hi keys (groups_in keys (take child rows)) (h - child))
-group_encloses [] rows count child l h a full b c = (a, omega arith, omega arith)
-group_encloses (k ∷ ks) rows count child l h a full b c =
-    let cut : GrowsBy (length rows - child) (groups_in (k ∷ ks) (take child rows)) (groups_in (k ∷ ks) rows) = groups_cut (k ∷ ks) child rows in (
-      elim (cases_lt 0 count) [
-        | inl p ↦
-            let all : groups_in (k ∷ ks) (take child rows) ≡ groups_in (k ∷ ks) rows = ap (λ i. groups_in (k ∷ ks) (take i rows)) (full p) ∙ ap (groups_in (k ∷ ks)) (take-length rows) in
-            omega (arith, a, all)
-        | inr z ↦ omega (arith, z)
-      ],
-      omega (arith, cut, b, groups_some k ks rows),
-      omega (arith, cut, c),
-    )
-
--- more is settled, the child's lower bound is no less, and what is settled or unread is no more
-pub group_narrows : (keys : List ℕ) (s l u s' l' u' : ℕ) → s ≤ s' → l ≤ l' → s' + u' ≤ s + u
-    → (group_lo keys s l ≤ group_lo keys s' l') × (group_hi keys s' u' ≤ group_hi keys s u)
-group_narrows [] s l u s' l' u' a b c = (omega arith, omega arith)
-group_narrows (k ∷ ks) s l u s' l' u' a b c = (omega arith, c)
-
--- all rows of the child are read
-pub group_ends : (keys : List ℕ) (rows : List Row) (k h : ℕ) → h ≤ k → group_hi keys (groups_in keys (take k rows)) (h - k) ≤ groups_in keys rows
-group_ends [] rows k h a = omega arith
-group_ends (c ∷ cs) rows k h a = omega (arith, groups_cut (c ∷ cs) k rows)
-
--- before any event
-pub group_first : (keys : List ℕ) (k h first : ℕ) (rows : List Row) → k ≤ h → h ≤ first
-    → group_hi keys (groups_in keys (take k rows)) (h - k) ≤ group_hi keys 0 first
-group_first [] k h first rows a b = omega arith
-group_first (c ∷ cs) k h first rows a b = omega (arith, groups_cut (c ∷ cs) 0 (take k rows), length-take k rows)

@@ -1,10 +1,10 @@
 -- parts of worked examples of bounds
-use Rattle.std.specs.Prelude.{ℕ, true, false, List, [], ◌∷◌, None, codes}
+use Rattle.std.specs.Prelude.{ℕ, Bool, true, false, List, [], ◌∷◌, Option, None, Some, codes}
 use Rattle.pm_plan.specs.declared.gauge.Bound.{Bound}
 use Rattle.pm_plan.specs.declared.gauge.Whole.{Whole}
 use Rattle.pm_plan.specs.Rows.{Db}
-use Rattle.pm_plan.specs.Tree.{Tree, Scan, Project, Hash}
-use Rattle.pm_work.specs.Worked.{declared, integer_column, over, number, label, pair, flags}
+use Rattle.pm_plan.specs.Tree.{Project, Method, Hash, Merge, Tree, Scan, Over, Join, Index}
+use Rattle.pm_plan.specs.Worked.{declared, integer_column, over, number, label, pair, flags, on, numbers, customer_rows, order_rows, ordered_customer_decl, ordered_order_decl}
 use Rattle.pm_bounds.specs.Bounds.{whole_at}
 
 abbrev pub enclosed : ℕ → ℕ → ℕ → Whole
@@ -18,26 +18,53 @@ abbrev pub wholes : Db → Tree → List ℕ → List Whole
 wholes db tree [] = []
 wholes db tree (t ∷ moments) = whole_at db tree t ∷ wholes db tree moments
 
--- three rows of one column
+-- SELECT * FROM t
 abbrev pub three_rows : Db
-three_rows = over (declared (codes "t") (integer_column (codes "a") ∷ []) None None) ((number 7 ∷ []) ∷ (number 8 ∷ []) ∷ (number 9 ∷ []) ∷ []) ∷ []
+three_rows = numbers ∷ []
 
 abbrev pub three : Tree
-three = Project (Scan 0 (label (codes "t") (codes "t"))) (0 ∷ [])
+three = Over (Project (0 ∷ [])) (Scan 0 (label (codes "t") (codes "t")))
 
-abbrev pub scan : ℕ → Tree
-scan table = Scan table (label (codes "t") (codes "t"))
+-- SELECT c.name, o.amt FROM cust c JOIN ord o ON c.id = o.cust: the left side is unique
+abbrev pub customers_with : Method → Tree
+customers_with method =
+    Over (Project (1 ∷ 4 ∷ []))
+    (Join method (on (pair 0 1) (flags true false)) (Scan 0 (label (codes "cust") (codes "c"))) (Scan 1 (label (codes "ord") (codes "o"))))
 
--- tables of one column, each joined to the ones before it, none with a KEY
-abbrev pub six_tables : Tree
-six_tables =
-    Project (Hash (Hash (Hash (Hash (Hash (scan 0) (scan 1) (pair 0 0) (flags false false)) (scan 2) (pair 1 0) (flags false false)) (scan 3) (pair 2 0) (flags false false)) (scan 4) (pair 3 0) (flags false false)) (scan 5) (pair 4 0) (flags false false)) (0 ∷ [])
+abbrev pub customers_looked_up : Tree
+customers_looked_up =
+    Over (Project (1 ∷ 4 ∷ []))
+    (Index (Scan 0 (label (codes "cust") (codes "c"))) (record { table = 1; label = label (codes "ord") (codes "o"); on = on (pair 0 1) (flags true false) }) None)
 
+-- the ordered tables, customers first
+abbrev pub ordered_customers_first : Db
+ordered_customers_first = over ordered_customer_decl customer_rows ∷ over ordered_order_decl order_rows ∷ []
+
+-- 5, 5, 7 merged with 5, 5, 6, on columns that are no KEY
+abbrev pub ordered_keyless : Db
+ordered_keyless =
+    over (declared (codes "a") (integer_column (codes "x") ∷ []) None (Some (0 ∷ []))) ((number 5 ∷ []) ∷ (number 5 ∷ []) ∷ (number 7 ∷ []) ∷ [])
+    ∷ over (declared (codes "b") (integer_column (codes "y") ∷ []) None (Some (0 ∷ []))) ((number 5 ∷ []) ∷ (number 5 ∷ []) ∷ (number 6 ∷ []) ∷ [])
+    ∷ []
+
+abbrev pub keyless_merge : Tree
+keyless_merge =
+    Over (Project (0 ∷ 1 ∷ []))
+    (Join Merge (on (pair 0 0) (flags false false)) (Scan 0 (label (codes "a") (codes "a"))) (Scan 1 (label (codes "b") (codes "b"))))
+
+-- a table of one column, which has a KEY or not, joined to a tree on this column of it
+abbrev pub and_table : ℕ → Bool → ℕ → Tree → Tree
+and_table table keyed column left =
+    Join (Hash false) (on (pair column 0) (flags false keyed)) left (Scan table (label (codes "t") (codes "t")))
+
+-- tables of one column, each joined to the one before it, none with a KEY
 abbrev pub five_tables : Tree
 five_tables =
-    Project (Hash (Hash (Hash (Hash (scan 0) (scan 1) (pair 0 0) (flags false false)) (scan 2) (pair 1 0) (flags false false)) (scan 3) (pair 2 0) (flags false false)) (scan 4) (pair 3 0) (flags false false)) (0 ∷ [])
+    and_table 4 false 3 (and_table 3 false 2 (and_table 2 false 1 (and_table 1 false 0 (Scan 0 (label (codes "t") (codes "t"))))))
+
+abbrev pub first_column : Tree → Tree
+first_column tree = Over (Project (0 ∷ [])) tree
 
 -- two tables without a KEY, and two with one
 abbrev pub two_keyed : Tree
-two_keyed =
-    Project (Hash (Hash (Hash (scan 0) (scan 1) (pair 0 0) (flags false false)) (scan 2) (pair 0 0) (flags false true)) (scan 3) (pair 0 0) (flags false true)) (0 ∷ [])
+two_keyed = first_column (and_table 3 true 0 (and_table 2 true 0 (and_table 1 false 0 (Scan 0 (label (codes "t") (codes "t"))))))

@@ -2,5 +2,4 @@
 //! that say so: they enclose the truth, never widen, and are exact at the end.
 #![tactic(auto)]
 
-pub mod laws;
-pub mod worked;
+mod worked;

@@ -1,11 +1,13 @@
 //! Worked examples of the bounds, each the contract of a function that does nothing: they are proved by computing.
-ghost use Rattle.std.specs.Prelude.{◌≡◌, ◌+◌, ◌^◌, [], ◌∷◌};
+ghost use Rattle.std.specs.Prelude.{◌≡◌, ◌+◌, ◌^◌, true, false, [], ◌∷◌};
+ghost use Rattle.pm_plan.specs.Tree.{Hash, Merge};
+ghost use Rattle.pm_plan.specs.Worked.{shop, ordered_shop, referring_shop, customers_first, no_orders, customers_alone, keyless, groups};
 ghost use Rattle.pm_work.specs.Moments.{gauge_in, gauges_at};
 ghost use Rattle.pm_work.specs.First.{first_bound};
 ghost use Rattle.pm_work.specs.Fits.{sizes_of};
-ghost use Rattle.pm_work.specs.Worked.{shop, no_orders, customers_alone, keyless, groups, grouped_rows, hashed, counted, customers_from_two, keyless_join};
+ghost use Rattle.pm_work.specs.Worked.{grouped_rows, hashed, sought_rows, merged_rows, counted, customers_from_two, keyless_join, total_join, padded_join};
 ghost use Rattle.pm_bounds.specs.Bounds.{bounds_of, whole_at};
-ghost use Rattle.pm_bounds.specs.Worked.{enclosed, bound, wholes, three_rows, three, six_tables, five_tables, two_keyed};
+ghost use Rattle.pm_bounds.specs.Worked.{enclosed, bound, wholes, three_rows, three, customers_with, customers_looked_up, ordered_customers_first, ordered_keyless, keyless_merge, and_table, five_tables, first_column, two_keyed};
 
 /// Where nothing is filtered or joined, the bounds are exact from the first event on.
 pub fn exact_bounds_worked()
@@ -38,8 +40,35 @@ pub fn keyless_join_bounds_worked()
 
 /// First bounds of large joins: a KEY on the right side keeps a join within its left side.
 pub fn first_bounds_worked()
-    ensures six { first_bound (1000000 ∷ 1000000 ∷ 1000000 ∷ 1000000 ∷ 1000000 ∷ 1000000 ∷ []) six_tables ≡ 2000001000001000001000001000006000000 }
-    ensures five { first_bound (1000000 ∷ 1000000 ∷ 1000000 ∷ 1000000 ∷ 1000000 ∷ []) five_tables ≡ 2000001000001000001000005000000 }
+    ensures six { first_bound (1000000 ∷ 1000000 ∷ 1000000 ∷ 1000000 ∷ 1000000 ∷ 1000000 ∷ []) (first_column (and_table 5 false 4 five_tables)) ≡ 2000001000001000001000001000006000000 }
+    ensures five { first_bound (1000000 ∷ 1000000 ∷ 1000000 ∷ 1000000 ∷ 1000000 ∷ []) (first_column five_tables) ≡ 2000001000001000001000005000000 }
     ensures at_the_limit { first_bound (50000000000000000 ∷ 49999999999999999 ∷ 100000000000000000 ∷ 1 ∷ []) two_keyed ≡ 10 ^ 34 }
     ensures past_the_limit { first_bound (50000000000000000 ∷ 49999999999999999 ∷ 100000000000000000 ∷ 2 ∷ []) two_keyed ≡ 10 ^ 34 + 1 }
+{}
+
+/// An index join: the rows that its Seek may still find bound it, and where the left side is unique they are at most the
+/// table's.
+pub fn index_join_bounds_worked()
+    ensures right_unique { wholes shop sought_rows (0 ∷ 1 ∷ 3 ∷ 9 ∷ []) ≡ enclosed 0 4 20 ∷ enclosed 1 4 16 ∷ enclosed 3 6 16 ∷ enclosed 9 12 16 ∷ [] }
+    ensures left_unique { wholes customers_first customers_looked_up (0 ∷ 1 ∷ 9 ∷ []) ≡ enclosed 0 3 15 ∷ enclosed 1 5 15 ∷ enclosed 9 10 12 ∷ [] }
+{}
+
+/// A merge join: the rows to come of each side may pair with the rows read and to come of the other one; a side that is
+/// unique keeps the pairs within the rows of the other side.
+pub fn merge_join_bounds_worked()
+    ensures right_unique { wholes ordered_shop merged_rows (0 ∷ 1 ∷ 4 ∷ 10 ∷ []) ≡ enclosed 0 7 19 ∷ enclosed 1 7 16 ∷ enclosed 4 10 16 ∷ enclosed 10 13 16 ∷ [] }
+    ensures left_unique { wholes ordered_customers_first (customers_with Merge) (0 ∷ 2 ∷ 10 ∷ []) ≡ enclosed 0 7 15 ∷ enclosed 2 9 15 ∷ enclosed 10 13 15 ∷ [] }
+    ensures neither { wholes ordered_keyless keyless_merge (0 ∷ 4 ∷ 9 ∷ []) ≡ enclosed 0 6 24 ∷ enclosed 4 10 22 ∷ enclosed 9 14 20 ∷ [] }
+{}
+
+/// A hash join whose left side has a KEY.
+pub fn left_unique_bounds_worked()
+    ensures { wholes customers_first (customers_with (Hash false)) (0 ∷ 5 ∷ 11 ∷ []) ≡ enclosed 0 7 15 ∷ enclosed 5 11 15 ∷ enclosed 11 13 13 ∷ [] }
+{}
+
+/// A join along a reference has at least as many rows as its left side; a left join too, and each of its left rows counts
+/// once more where it has more matches.
+pub fn matched_bounds_worked()
+    ensures total { wholes referring_shop total_join (0 ∷ 1 ∷ []) ≡ enclosed 0 12 12 ∷ enclosed 1 12 12 ∷ [] }
+    ensures padded { wholes customers_first padded_join (0 ∷ 4 ∷ 5 ∷ []) ≡ enclosed 0 13 21 ∷ enclosed 4 13 19 ∷ enclosed 5 15 19 ∷ [] }
 {}

@@ -2,12 +2,14 @@
 ghost use Rattle.std.specs.Prelude.{◌≡◌, ℕ, List, [], ◌∷◌, pos, negsuc, true, false, codes};
 ghost use Rattle.std.specs.declared.cmp.Ordering.TheVariants as ordering;
 ghost use Rattle.pm_values.specs.declared.value.Value.TheVariants as value;
+ghost use Rattle.pm_values.specs.declared.value.Kind.TheVariants as kind;
 ghost use Rattle.pm_values.specs.declared.condition.Truth.TheVariants.{Yes, No, Unknown};
 ghost use Rattle.pm_values.specs.declared.condition.Comparison.TheVariants as comparison;
 ghost use Rattle.pm_values.specs.declared.condition.Cond.TheVariants as cond;
 ghost use Rattle.pm_values.specs.Order.{value_cmp, values_cmp};
 ghost use Rattle.pm_values.specs.Equality.{same_values, same_key};
 ghost use Rattle.pm_values.specs.Condition.{keeps, truth};
+ghost use Rattle.pm_values.specs.ValueText.{value_text};
 ghost use Rattle.pm_values.specs.References.{has_target};
 ghost use Rattle.pm_values.specs.Keys.{different_keys, greatest_multiplicity, is_greater_key, matching, multiplicity, worst};
 ghost use Rattle.pm_values.specs.Worked.{above_five_and_a_half, always, column_against, is_one, mixed_keys, never, null_row, number_row, second_to_first, text_row};
@@ -47,6 +49,14 @@ pub fn null_worked()
     ensures key { same_key null_row null_row ≡ false }
     ensures group { same_values null_row null_row ≡ true }
     ensures one { same_key (number_row (pos 1)) (number_row (pos 1)) ≡ true }
+{}
+
+/// A fixed-point number is written with all of its decimals, and NULL as nothing.
+pub fn text_worked()
+    ensures decimals { value_text (kind.Num 2) (value.Int (pos 750)) ≡ codes "7.50" }
+    ensures sign { value_text (kind.Num 2) (value.Int (negsuc 4)) ≡ codes "-0.05" }
+    ensures whole { value_text kind.Int (value.Int (negsuc 8)) ≡ codes "-9" }
+    ensures null { value_text kind.Int value.Null ≡ [] }
 {}
 
 /// Of the keys 1, NULL, '1', 1 and NULL, the key 1 is there twice, and NULL is no key that is there.

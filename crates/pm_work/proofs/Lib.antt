@@ -1,3 +1,5 @@
+pub mod Joins
+pub mod Sorts
 pub mod EventLists
 pub mod Merges
 pub mod Indexes

@@ -1,5 +1,0 @@
-use Rattle.pm_bounds.proofs.Sums.{scanned_within}
-use Rattle.pm_bounds.proofs.laws.scanned_within_lower.Goals as goal
-
-pub returns : goal.returns
-returns c = λ db tree K G g. scanned_within db K G tree 1 g
