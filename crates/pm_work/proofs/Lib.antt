@@ -6,3 +6,7 @@ pub mod Indexes
 pub mod Operators
 pub mod EventLaws
 pub mod Counting
+pub mod RowLists
+pub mod Tables
+pub mod RowKinds
+pub mod Uniqueness

@@ -1,11 +1,14 @@
 //! The laws of the definitions, each the contract of a function that does nothing.
-ghost use Rattle.std.specs.Prelude.{◌≡◌, ℕ, ◌≤◌, length};
-ghost use Rattle.pm_plan.specs.Rows.{Db};
+ghost use Rattle.std.specs.Prelude.{◌≡◌, ℕ, ◌≤◌, true, List, length, All};
+ghost use Rattle.pm_values.specs.Table.{IsRelation};
+ghost use Rattle.pm_plan.specs.Rows.{Db, decls_of};
 ghost use Rattle.pm_plan.specs.Tree.{Tree, right_number, EachAt, sum_at};
 ghost use Rattle.pm_plan.specs.Outputs.{output, sought};
+ghost use Rattle.pm_plan.specs.Unique.{unique_on};
 ghost use Rattle.pm_work.specs.Events.{events, rows_at};
 ghost use Rattle.pm_work.specs.Work.{whole_work};
 ghost use Rattle.pm_work.specs.Moments.{counts_at};
+ghost use Rattle.pm_work.specs.Facts.{KeysDiffer, AtMostOne};
 
 /// The events number the whole work; and the rows that they give each node, and each Seek, are what it hands out in all,
 /// in order.
@@ -20,4 +23,13 @@ pub fn events_are_whole()
 pub fn counts_are_events()
     ensures { (db : Db) (tree : Tree) (t : ℕ) → t ≤ whole_work db tree
         → sum_at (λ u n. counts_at db tree t n) (λ left seek n. counts_at db tree t (right_number n left)) tree 1 ≡ t }
+{}
+
+/// Where the tables are as they are declared, a tree that is unique on columns hands out no two rows that agree there and
+/// hold no NULL there.
+pub fn unique_rows()
+    ensures differ { (db : Db) (tree : Tree) (columns : List ℕ) → All IsRelation db → unique_on (decls_of db) tree columns ≡ true
+        → KeysDiffer columns (output db tree) }
+    ensures at_most_one { (db : Db) (tree : Tree) (columns : List ℕ) → All IsRelation db → unique_on (decls_of db) tree columns ≡ true
+        → AtMostOne columns (output db tree) }
 {}
