@@ -10,3 +10,5 @@ pub mod RowLists
 pub mod Tables
 pub mod RowKinds
 pub mod Uniqueness
+pub mod Ascending
+pub mod LeftOrder

@@ -180,8 +180,8 @@ module _ (db : Db) (sound : All IsRelation db) where
   pub joined_fits : (method : Method) (left right : List Kind) (pairs : List Pair) (ls rs : List Row) → All (FitsKinds left) ls → All (FitsKinds right) rs
       → All (FitsKinds (left ++ right)) (joined_by method pairs (length right) ls rs)
   joined_fits method left right pairs ls rs fl fr =
-      All-joined (FitsKinds left) (FitsKinds right) (FitsKinds (left ++ right)) (append_kinds left right)
-      (length right) (λ l f. append_kinds left right l (replicate (length right) value.Null) f (null_kinds right)) method pairs ls rs fl fr
+      All-joined (FitsKinds left) (FitsKinds right) (FitsKinds (left ++ right)) (append_kinds left right) (length right)
+      method (λ pad l f. append_kinds left right l (replicate (length right) value.Null) f (null_kinds right)) pairs ls rs fl fr
 
   -- a row of any operator has one value for each kind of the tree, NULL or one of the kind
   pub output_fits : (t : Tree) → All (FitsKinds (kinds_of (decls_of db) t)) (output db t)

@@ -1,9 +1,9 @@
 -- a tree that is unique on columns has no two rows that agree there and hold no NULL there
-use Rattle.std.proofs.Common.{◌≡◌, ℕ, zero, suc, ◌+◌, ◌<◌, ◌≤◌, Bool, true, false, cond, List, [], ◌∷◌, ◌++◌, length, replicate, refl, sym, ap, ◌∙◌, inl, inr, arith}
+use Rattle.std.proofs.Common.{◌≡◌, ℕ, zero, suc, ◌+◌, ◌<◌, ◌≤◌, Bool, true, false, cond, List, [], ◌∷◌, ◌++◌, length, refl, sym, ap, ◌∙◌, inl, inr, arith}
 use Rattle.std.specs.Prelude.{nat_lt, All}
 use Rattle.std.specs.List.{filter}
 use Rattle.std.proofs.lemmas.List.{get_or_append_left, map-append, length-map}
-use Rattle.std.proofs.lemmas.List.Elements.{All-head, All-tail, All-contains_itself}
+use Rattle.std.proofs.lemmas.List.Elements.{All-head, All-tail}
 use Rattle.std.proofs.lemmas.Bool.{cases_Bool, and_from, ltb-true, both_ways}
 use Rattle.pm_values.specs.declared.value.Value.TheVariants as value
 use Rattle.pm_values.specs.Row.{Row, cell, pick}
@@ -24,7 +24,7 @@ use Rattle.pm_plan.specs.Outputs.{output, rows_over, keeps_if}
 use Rattle.pm_work.specs.Facts.{KeysDiffer, AtMostOne}
 use Rattle.pm_work.proofs.Joins.{multiplicity-is, rows_for_one}
 use Rattle.pm_work.proofs.Sorts.{length-filter_sorted}
-use Rattle.pm_work.proofs.RowLists.{All-rows_for}
+use Rattle.pm_work.proofs.RowLists.{BeginsWith, rows_for_begin}
 use Rattle.pm_work.proofs.RowKinds.{wide_output}
 use Rattle.pm_work.proofs.Tables.{table_unique}
 
@@ -70,15 +70,6 @@ part_same wide (c ∷ columns) (v ∷ key) l r e m =
       | inl h ↦ rw h (and_from (same_key_value v (cell l c)) (same_key (part_of_key wide columns key) (pick (left_part wide columns) l)) (ap (same_key_value v) (sym (cell_left l r c wide e h)) ∙ p.0) deep)
       | inr h ↦ rw h deep
     ]
-
--- the row begins with this one
-abbrev BeginsWith : Row → Row → Type 0
-BeginsWith l row = (rest : Row) × (row ≡ l ++ rest)
-
-rows_for_begin : (method : Method) (pairs : List Pair) (w : ℕ) (rs : List Row) (l : Row) → All (BeginsWith l) (rows_for method pairs w rs l)
-rows_for_begin method pairs w rs l =
-    All-rows_for (λ k. k ≡ l) (λ r. Unit {0}) (BeginsWith l) (λ k r e q. (r, ap (λ k. k ++ r) e)) w (λ k e. (replicate w value.Null, ap (λ k. k ++ replicate w value.Null) e))
-    method pairs l rs refl (λ k d p. tt)
 
 module _ (wide : ℕ) (columns : List ℕ) (key : Row) where
   none_begin : (l : Row) (rows : List Row) → length l ≡ wide → All (BeginsWith l) rows → same_key (part_of_key wide columns key) (pick (left_part wide columns) l) ≡ false
