@@ -12,3 +12,5 @@ pub mod RowKinds
 pub mod Uniqueness
 pub mod Ascending
 pub mod LeftOrder
+pub mod References
+pub mod Flags

@@ -1,6 +1,9 @@
 //! The laws of the definitions, each the contract of a function that does nothing.
 ghost use Rattle.std.specs.Prelude.{◌≡◌, ℕ, ◌≤◌, true, List, length, All};
 ghost use Rattle.pm_values.specs.Table.{IsRelation};
+ghost use Rattle.pm_values.specs.Row.{Row};
+ghost use Rattle.pm_plan.specs.declared.plan.Pair.{Pair};
+ghost use Rattle.pm_plan.specs.Joins.{join};
 ghost use Rattle.pm_plan.specs.Rows.{Db, decls_of};
 ghost use Rattle.pm_plan.specs.Tree.{Tree, right_number, EachAt, sum_at};
 ghost use Rattle.pm_plan.specs.Outputs.{output, sought};
@@ -8,7 +11,8 @@ ghost use Rattle.pm_plan.specs.Unique.{unique_on};
 ghost use Rattle.pm_work.specs.Events.{events, rows_at};
 ghost use Rattle.pm_work.specs.Work.{whole_work};
 ghost use Rattle.pm_work.specs.Moments.{counts_at};
-ghost use Rattle.pm_work.specs.Facts.{KeysDiffer, AtMostOne};
+ghost use Rattle.pm_work.specs.Facts.{KeysDiffer, AtMostOne, AllMatched, AllFlagsHold, MergesAscend};
+ghost use Rattle.pm_work.specs.Fits.{IsSound};
 
 /// The events number the whole work; and the rows that they give each node, and each Seek, are what it hands out in all,
 /// in order.
@@ -32,4 +36,16 @@ pub fn unique_rows()
         → KeysDiffer columns (output db tree) }
     ensures at_most_one { (db : Db) (tree : Tree) (columns : List ℕ) → All IsRelation db → unique_on (decls_of db) tree columns ≡ true
         → AtMostOne columns (output db tree) }
+{}
+
+/// In a sound plan each flag of a join that is set is so of the rows of its sides: no two rows of a side have one key, and
+/// each left row of a total join has a match. So a total join has at least as many rows as its left side.
+pub fn flags_hold()
+    ensures flags { (db : Db) (tree : Tree) → IsSound db tree → AllFlagsHold db tree }
+    ensures total { (pairs : List Pair) (lefts rights : List Row) → AllMatched pairs lefts rights → length lefts ≤ length (join pairs lefts rights) }
+{}
+
+/// In a sound plan the keys of both sides of each merge join ascend.
+pub fn merges_ascend()
+    ensures { (db : Db) (tree : Tree) → IsSound db tree → MergesAscend db tree }
 {}
