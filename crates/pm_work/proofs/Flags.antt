@@ -1,21 +1,24 @@
 -- in a tree that keeps the rules each flag that is set is so of the rows, and the keys of each merge join's sides ascend
-use Rattle.std.proofs.Common.{◌≡◌, ℕ, ◌<◌, ◌^◌, cond, List, [], ◌∷◌, ◌++◌, length, take, sym, ap, subst, ◌∙◌, inl, inr}
+use Rattle.std.proofs.Common.{◌≡◌, ℕ, ◌<◌, ◌≤◌, ◌^◌, cond, List, [], ◌∷◌, ◌++◌, length, take, sym, ap, subst, ◌∙◌, inl, inr, arith}
 use Rattle.std.specs.Prelude.{All, Contains, true, false, Option, None, Some}
 use Rattle.std.proofs.lemmas.Bool.{cases_Bool}
 use Rattle.std.proofs.lemmas.List.Elements.{All-contains, Contains-append_left, Contains-append_right}
+use Rattle.pm_values.specs.declared.condition.Cond.{Cond}
+use Rattle.pm_values.specs.Row.{Row}
 use Rattle.pm_values.specs.Order.{Ascends}
 use Rattle.pm_values.specs.Table.{IsRelation}
 use Rattle.pm_plan.specs.declared.plan.Pair.{Pair}
 use Rattle.pm_plan.specs.Rows.{Db, table_rows, decls_of}
-use Rattle.pm_plan.specs.Joins.{left_columns, right_columns}
+use Rattle.pm_plan.specs.Joins.{left_columns, right_columns, joined_by}
 use Rattle.pm_plan.specs.Kinds.{width}
 use Rattle.pm_plan.specs.Flags.{refers_if, scanned_table}
 use Rattle.pm_plan.specs.Valid.{IsValidRoot, IsValidJoin, IsValidSeek, IsValidTree, tables_of, is_joinable, leftmost_order}
 use Rattle.pm_plan.specs.Tree.{Method, Hash, Merge, On, Seek, Tree, Scan, Over, Join, Index, Each, pads}
-use Rattle.pm_plan.specs.Outputs.{output}
+use Rattle.pm_plan.specs.Outputs.{output, sought}
 use Rattle.pm_plan.proofs.Walks.{Each-map}
 use Rattle.pm_work.specs.Facts.{AllMatched, FlagsHold, AllFlagsHold, SidesAscend, method_ascends, merge_ascends, MergesAscend}
 use Rattle.pm_work.specs.Fits.{ReferencesHold, ReferencesBetween, IsSound}
+use Rattle.pm_work.proofs.Joins.{joined_ge, padded_each, join_ge, length-sought}
 use Rattle.pm_work.proofs.Tables.{table_unique}
 use Rattle.pm_work.proofs.Uniqueness.{at_most_one}
 use Rattle.pm_work.proofs.References.{NamedIn, one_named, AllReferencesHold, refers_matched}
@@ -93,3 +96,24 @@ flags db t sound =
     all_flags_hold db sound.tables (tables_of t)
     (λ child parent c p. All-contains (ReferencesBetween db child) (tables_of t) parent (All-contains (λ k. All (ReferencesBetween db k) (tables_of t)) (tables_of t) child sound.references c) p)
     t (λ k c. c) sound.operators
+
+-- ---- total joins
+
+joined_total : (method : Method) (pairs : List Pair) (w : ℕ) (ls rs : List Row) → AllMatched pairs ls rs → length ls ≤ length (joined_by method pairs w ls rs)
+joined_total (Hash true) pairs w ls rs matched = joined_ge (Hash true) pairs w rs ls (padded_each pairs w rs ls)
+joined_total (Hash false) pairs w ls rs matched = join_ge pairs ls rs matched
+joined_total Merge pairs w ls rs matched = join_ge pairs ls rs matched
+
+pub total_join : (db : Db) (method : Method) (on : On) (left right : Tree) → IsSound db (Join method on left right) → on.unique.total ≡ true
+    → length (output db left) ≤ length (output db (Join method on left right))
+total_join db method on left right sound total =
+    joined_total method on.pairs (width (decls_of db) right) (output db left) (output db right) ((flags db (Join method on left right) sound).0.total total)
+
+pub total_seek : (db : Db) (left : Tree) (seek : Seek) (c : Option Cond) → IsSound db (Index left seek c) → seek.on.unique.total ≡ true
+    → length (output db left) ≤ length (sought db seek (output db left))
+total_seek db left seek c sound total =
+    omega (
+      arith,
+      join_ge seek.on.pairs (output db left) (table_rows db seek.table) ((flags db (Index left seek c) sound).1.total total),
+      length-sought seek.on.pairs (table_rows db seek.table) (output db left),
+    )

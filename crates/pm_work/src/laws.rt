@@ -1,17 +1,15 @@
 //! The laws of the definitions, each the contract of a function that does nothing.
-ghost use Rattle.std.specs.Prelude.{◌≡◌, ℕ, ◌≤◌, true, List, length, All};
+ghost use Rattle.std.specs.Prelude.{◌≡◌, ℕ, ◌≤◌, true, List, length, All, Option};
 ghost use Rattle.pm_values.specs.Table.{IsRelation};
-ghost use Rattle.pm_values.specs.Row.{Row};
-ghost use Rattle.pm_plan.specs.declared.plan.Pair.{Pair};
-ghost use Rattle.pm_plan.specs.Joins.{join};
+ghost use Rattle.pm_values.specs.declared.condition.Cond.{Cond};
 ghost use Rattle.pm_plan.specs.Rows.{Db, decls_of};
-ghost use Rattle.pm_plan.specs.Tree.{Tree, right_number, EachAt, sum_at};
+ghost use Rattle.pm_plan.specs.Tree.{Method, On, Seek, Tree, Join, Index, right_number, EachAt, sum_at};
 ghost use Rattle.pm_plan.specs.Outputs.{output, sought};
 ghost use Rattle.pm_plan.specs.Unique.{unique_on};
 ghost use Rattle.pm_work.specs.Events.{events, rows_at};
 ghost use Rattle.pm_work.specs.Work.{whole_work};
 ghost use Rattle.pm_work.specs.Moments.{counts_at};
-ghost use Rattle.pm_work.specs.Facts.{KeysDiffer, AtMostOne, AllMatched, AllFlagsHold, MergesAscend};
+ghost use Rattle.pm_work.specs.Facts.{KeysDiffer, AtMostOne, AllFlagsHold, MergesAscend};
 ghost use Rattle.pm_work.specs.Fits.{IsSound};
 
 /// The events number the whole work; and the rows that they give each node, and each Seek, are what it hands out in all,
@@ -39,10 +37,14 @@ pub fn unique_rows()
 {}
 
 /// In a sound plan each flag of a join that is set is so of the rows of its sides: no two rows of a side have one key, and
-/// each left row of a total join has a match. So a total join has at least as many rows as its left side.
+/// each left row of a total join has a match. So a total join has at least as many rows as its
+/// left side.
 pub fn flags_hold()
     ensures flags { (db : Db) (tree : Tree) → IsSound db tree → AllFlagsHold db tree }
-    ensures total { (pairs : List Pair) (lefts rights : List Row) → AllMatched pairs lefts rights → length lefts ≤ length (join pairs lefts rights) }
+    ensures joined { (db : Db) (method : Method) (on : On) (left right : Tree) → IsSound db (Join method on left right) → on.unique.total ≡ true
+        → length (output db left) ≤ length (output db (Join method on left right)) }
+    ensures sought { (db : Db) (left : Tree) (seek : Seek) (cond : Option Cond) → IsSound db (Index left seek cond) → seek.on.unique.total ≡ true
+        → length (output db left) ≤ length (sought db seek (output db left)) }
 {}
 
 /// In a sound plan the keys of both sides of each merge join ascend.
