@@ -14,3 +14,4 @@ pub mod Ascending
 pub mod LeftOrder
 pub mod References
 pub mod Flags
+pub mod Cuts

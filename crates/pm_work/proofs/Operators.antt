@@ -17,7 +17,7 @@ use Rattle.pm_work.proofs.EventLists.{Within, Within-append, Within-wider, Withi
 use Rattle.pm_work.proofs.Merges.{Within-merged, rows_at-merged, filter-merged_left, filter-merged_right}
 use Rattle.pm_work.proofs.Indexes.{looked_up, Within-looked_up, at_seek, at_index, below_index}
 
-flat_map-filter : (p : Row → _) (rows : List Row) → flat_map (λ row. filter p (row ∷ [])) rows ≡ filter p rows
+pub flat_map-filter : (p : Row → _) (rows : List Row) → flat_map (λ row. filter p (row ∷ [])) rows ≡ filter p rows
 flat_map-filter p [] = refl
 flat_map-filter p (r ∷ rows) =
     elim (p r) as (λ t. cond t (r ∷ []) [] ++ flat_map (λ row. filter p (row ∷ [])) rows ≡ cond t (r ∷ filter p rows) (filter p rows))
