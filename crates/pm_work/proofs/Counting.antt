@@ -1,13 +1,12 @@
 -- the counts of all nodes and Seeks number the events, and all events number the whole work
-use Rattle.std.proofs.Common.{◌≡◌, ℕ, ◌+◌, ◌<◌, ◌≤◌, List, [], ◌∷◌, ◌++◌, length, take, drop, refl, sym, ap, subst, ◌∙◌, arith}
+use Rattle.std.proofs.Common.{◌≡◌, ℕ, ◌+◌, ◌≤◌, List, [], ◌∷◌, length, take, drop, refl, sym, ap, subst, ◌∙◌, arith}
 use Rattle.std.proofs.lemmas.Bool.Decides.{nat_tests}
 use Rattle.std.proofs.lemmas.List.{length-take-le, take-append-drop}
 use Rattle.pm_plan.specs.Rows.{Db}
-use Rattle.pm_plan.specs.Tree.{Tree, Scan, Over, Join, Index, Seek, size, right_number, EachAt, sum_at}
+use Rattle.pm_plan.specs.Tree.{Tree, Scan, Over, Join, Index, size, right_number, EachAt, sum_at}
 use Rattle.pm_plan.specs.Outputs.{output, sought}
 use Rattle.pm_plan.proofs.Walks.{EachAt-map, sum_at-same, sum_at-sum_in}
 use Rattle.pm_work.specs.Events.{Event, events, rows_at, counts}
-use Rattle.pm_work.specs.Moments.{counts_at}
 use Rattle.pm_work.specs.Work.{whole_work}
 use Rattle.pm_work.proofs.EventLists.{Within, Within-first, part, part-all, rows_at-part}
 use Rattle.pm_work.proofs.EventLaws.{size_pos, Within-events, rows_at-events, part_at, events_parts}
@@ -69,7 +68,6 @@ length-part es (Index left seek cond) n b e =
 
 pub sum-counts : (es : List Event) (t : Tree) (n : ℕ) → Within n (n + size t) es → sum_of_counts es t n ≡ length es
 sum-counts es t n w = sym (length-part es t n (n + size t) refl) ∙ ap length (part-all n (n + size t) es w)
-
 
 pub length-events : (db : Db) (t : Tree) (n : ℕ) → length (events db t n) ≡ whole_work db t
 length-events db t n =

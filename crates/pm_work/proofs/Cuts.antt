@@ -18,7 +18,7 @@ use Rattle.pm_plan.specs.Joins.{left_columns, right_columns, matches, joined_row
 use Rattle.pm_plan.specs.Tree.{Hash}
 use Rattle.pm_plan.specs.Outputs.{keeps_if}
 use Rattle.pm_work.specs.Events.{Event, events_of, after, rows_at, through, beyond, merged, seek_events}
-use Rattle.pm_work.proofs.EventLists.{filter-after, is_within, part, part-all, part-none, rows_at-part, rows_at-after, Only, Within, Only-events_of, Within-events_of, Within-after, Within-wider, Only-first, Within-first, rows_at-append, rows_at-cons, rows_at-events_of, rows_at-outside, rows_at-other, rows_at-one, rows_at-own, InFirst, InSecond, cut_of-append}
+use Rattle.pm_work.proofs.EventLists.{filter-after, is_within, part, part-all, part-none, rows_at-part, rows_at-after, Only, Within, Only-events_of, Within-events_of, Within-after, Within-wider, Only-first, Within-first, rows_at-append, rows_at-cons, rows_at-events_of, rows_at-outside, rows_at-other, rows_at-one, rows_at-own, cut_of-append}
 use Rattle.pm_work.proofs.Merges.{through-beyond, now_of, late_of, own_of, rest_of, now-late, Within-now}
 use Rattle.pm_work.proofs.Operators.{flat_map-filter}
 use Rattle.pm_work.proofs.Ascending.{NoPair, falls, or_false}
@@ -213,7 +213,11 @@ module _ (pairs : List Pair) where
       → length own ≤ length (joined_rows pairs front l) → length more ≤ length (join pairs ls (front ++ back)) → length rows ≤ length (join pairs lefts rights)
   pairs_more l ls front back own more rows lefts rights p k r few le =
       omega (
-        arith, le, few, ap length p, length-append own more,
+        arith,
+        le,
+        few,
+        ap length p,
+        length-append own more,
         ap (λ s. length (join pairs s rights)) k,
         ap (λ s. length (join pairs (l ∷ ls) s)) r,
         joined_rows-more l front back,
@@ -398,8 +402,7 @@ module _ (condition : Option Cond) (n s : ℕ) (apart : n + 1 < s) (pairs : List
       let own : Alike s (cond (eqb x.node (n + 1)) (flat_map (seek_events condition n s x.row) (matches pairs x.row all)) []) (after s keeping now) =
       elim (eqb x.node (n + 1)) as (λ t. Alike s (cond t (flat_map (seek_events condition n s x.row) (matches pairs x.row all)) []) (after s keeping (cond t (seeks x.row) [])))
       [ true ↦ alike_pairs x.row (matches pairs x.row all) | false ↦ tt ] in
-      let split : after s keeping (now ++ after (n + 1) seeks lefts) ≡ after s keeping now ++ after s keeping (after (n + 1) seeks lefts) = after-append s keeping now (after (n + 1) seeks lefts) in
-      (
+      let split : after s keeping (now ++ after (n + 1) seeks lefts) ≡ after s keeping now ++ after s keeping (after (n + 1) seeks lefts) = after-append s keeping now (after (n + 1) seeks lefts) in (
         refl,
         (λ o. refl),
         rw (ne_eqb x.node s (λ z. absurd (omega (arith, z, w.1))))

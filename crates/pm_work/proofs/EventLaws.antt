@@ -1,9 +1,8 @@
 -- the events of a tree: their nodes, and for each node its own events and its rows
-use Rattle.std.proofs.Common.{◌≡◌, ℕ, ◌+◌, ◌<◌, ◌≤◌, List, [], ◌∷◌, ◌++◌, refl, sym, ap, subst, ◌∙◌, arith}
-use Rattle.std.specs.List.{flat_map, filter}
-use Rattle.pm_values.specs.Row.{Row}
+use Rattle.std.proofs.Common.{◌≡◌, ℕ, ◌+◌, ◌<◌, ◌≤◌, List, sym, ap, subst, ◌∙◌, arith}
+use Rattle.std.specs.List.{filter}
 use Rattle.pm_plan.specs.Rows.{Db, table_rows, decls_of}
-use Rattle.pm_plan.specs.Joins.{matches, join, joined_by}
+use Rattle.pm_plan.specs.Joins.{join, joined_by}
 use Rattle.pm_plan.specs.Kinds.{width}
 use Rattle.pm_plan.specs.Tree.{Tree, Scan, Over, Join, Index, Seek, size, right_number, EachAt}
 use Rattle.pm_plan.specs.Outputs.{output, sought, keeps_if}
@@ -19,7 +18,7 @@ size_pos (Index left seek cond) = omega arith
 
 module _ (db : Db) where
   -- a left side stands before its right side
-  apart : (n : ℕ) (left : Tree) → n + 1 < right_number n left
+  pub apart : (n : ℕ) (left : Tree) → n + 1 < right_number n left
   apart n left = omega (arith, size_pos left)
 
   -- each event is of a node of the tree

@@ -1,6 +1,6 @@
 -- in a tree that keeps the rules each flag that is set is so of the rows, and the keys of each merge join's sides ascend
-use Rattle.std.proofs.Common.{◌≡◌, ℕ, ◌<◌, ◌≤◌, ◌^◌, cond, List, [], ◌∷◌, ◌++◌, length, take, sym, ap, subst, ◌∙◌, inl, inr, arith}
-use Rattle.std.specs.Prelude.{All, Contains, true, false, Option, None, Some}
+use Rattle.std.proofs.Common.{◌≡◌, ℕ, ◌<◌, ◌≤◌, ◌^◌, cond, List, [], ◌∷◌, length, take, sym, ap, subst, ◌∙◌, inl, inr, arith}
+use Rattle.std.specs.Prelude.{All, Contains, true, false, Option, None}
 use Rattle.std.proofs.lemmas.Bool.{cases_Bool}
 use Rattle.std.proofs.lemmas.List.Elements.{All-contains, Contains-append_left, Contains-append_right}
 use Rattle.pm_values.specs.declared.condition.Cond.{Cond}
@@ -13,11 +13,11 @@ use Rattle.pm_plan.specs.Joins.{left_columns, right_columns, joined_by}
 use Rattle.pm_plan.specs.Kinds.{width}
 use Rattle.pm_plan.specs.Flags.{refers_if, scanned_table}
 use Rattle.pm_plan.specs.Valid.{IsValidRoot, IsValidJoin, IsValidSeek, IsValidTree, tables_of, is_joinable, leftmost_order}
-use Rattle.pm_plan.specs.Tree.{Method, Hash, Merge, On, Seek, Tree, Scan, Over, Join, Index, Each, pads}
+use Rattle.pm_plan.specs.Tree.{Method, Hash, Merge, On, Seek, Tree, Scan, Over, Join, Index, pads}
 use Rattle.pm_plan.specs.Outputs.{output, sought}
 use Rattle.pm_plan.proofs.Walks.{Each-map}
-use Rattle.pm_work.specs.Facts.{AllMatched, FlagsHold, AllFlagsHold, SidesAscend, method_ascends, merge_ascends, MergesAscend}
-use Rattle.pm_work.specs.Fits.{ReferencesHold, ReferencesBetween, IsSound}
+use Rattle.pm_work.specs.Facts.{AllMatched, FlagsHold, AllFlagsHold, method_ascends, merge_ascends, MergesAscend}
+use Rattle.pm_work.specs.Fits.{ReferencesBetween, IsSound}
 use Rattle.pm_work.proofs.Joins.{joined_ge, padded_each, join_ge, length-sought}
 use Rattle.pm_work.proofs.Tables.{table_unique}
 use Rattle.pm_work.proofs.Uniqueness.{at_most_one}

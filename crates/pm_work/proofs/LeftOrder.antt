@@ -10,7 +10,7 @@ use Rattle.std.proofs.lemmas.List.{length-map}
 use Rattle.std.proofs.lemmas.List.Elements.{All-head, All-tail}
 use Rattle.std.proofs.lemmas.List.Folds.{list_any-append}
 use Rattle.pm_values.specs.Row.{Row, cell, pick}
-use Rattle.pm_values.specs.Order.{value_cmp, values_cmp, is_less, key_at, Ascends}
+use Rattle.pm_values.specs.Order.{value_cmp, values_cmp, is_less, Ascends}
 use Rattle.pm_values.specs.Condition.{keeps}
 use Rattle.pm_values.specs.Table.{Declaration, IsRelation}
 use Rattle.pm_values.proofs.Keys.{both_true}

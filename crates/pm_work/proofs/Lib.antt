@@ -15,3 +15,6 @@ pub mod LeftOrder
 pub mod References
 pub mod Flags
 pub mod Cuts
+pub mod Orders
+pub mod Gauges
+pub mod FirstBounds

@@ -13,7 +13,7 @@ use Rattle.pm_plan.specs.Joins.{matches, joined_rows, rows_for, join, joined_by}
 use Rattle.pm_plan.specs.Tree.{Unary, Filter, Project, Sort, Group, Method, Hash, Merge, streams}
 use Rattle.pm_plan.specs.Outputs.{rows_over, keeps_if}
 use Rattle.pm_work.specs.Events.{Event, events_of, after, rows_at, events_over, events_joined, events_sought}
-use Rattle.pm_work.proofs.EventLists.{Within, Within-append, Within-wider, Within-events_of, Within-after, Only-events_of, filter-after, rows_at-append, rows_at-events_of, rows_at-outside, rows_at-after, is_within, part, part-all, part-none}
+use Rattle.pm_work.proofs.EventLists.{Within, Within-append, Within-wider, Within-events_of, Within-after, filter-after, rows_at-append, rows_at-events_of, rows_at-outside, rows_at-after, is_within, part, part-all, part-none}
 use Rattle.pm_work.proofs.Merges.{Within-merged, rows_at-merged, filter-merged_left, filter-merged_right}
 use Rattle.pm_work.proofs.Indexes.{looked_up, Within-looked_up, at_seek, at_index, below_index}
 

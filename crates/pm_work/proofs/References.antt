@@ -1,16 +1,14 @@
 -- where the declared references hold, each row of a left side that refers to a table has a match there
-use Rattle.std.proofs.Common.{◌≡◌, ◌≢◌, ℕ, zero, suc, ◌+◌, ◌-◌, ◌<◌, ◌≤◌, Bool, true, false, cond, not, ◌&&◌, List, [], ◌∷◌, ◌++◌, length, map, refl, sym, ap, subst, ◌∙◌, inl, inr, arith, append_assoc, length-append}
-use Rattle.std.specs.Prelude.{nat_eq, nat_le, slice_get, Option, Some, None, All, Contains}
+use Rattle.std.proofs.Common.{◌≡◌, ◌≢◌, ℕ, zero, suc, ◌+◌, ◌-◌, ◌<◌, ◌≤◌, Bool, true, false, not, ◌&&◌, List, [], ◌∷◌, ◌++◌, length, map, refl, sym, ap, subst, ◌∙◌, inl, inr, arith, append_assoc, length-append}
+use Rattle.std.specs.Prelude.{nat_eq, nat_le, slice_get, All, Contains}
 use Rattle.std.specs.List.{filter, list_any, list_all}
 use Rattle.std.proofs.lemmas.Bool.{cases_Bool, or_cases, eqb-true, leb-true}
-use Rattle.std.proofs.lemmas.Bool.Decides.{nat_tests}
 use Rattle.std.proofs.lemmas.List.{append-nil, get_or_append_left, get_or-append_right}
 use Rattle.std.proofs.lemmas.List.Elements.{All-nil, All-cons, All-head, All-tail, All-append, All-filter, All-weaker, All-contains, All-contains_itself, Contains-append_left, Contains-append_right}
 use Rattle.pm_values.specs.declared.value.Value.TheVariants as value
 use Rattle.pm_values.specs.declared.table.ColumnDecl.{ColumnDecl}
 use Rattle.pm_values.specs.declared.table.Reference.{Reference}
 use Rattle.pm_values.specs.Row.{Row, cell, pick}
-use Rattle.pm_values.specs.Condition.{keeps}
 use Rattle.pm_values.specs.Equality.{same_key, same_values}
 use Rattle.pm_values.specs.References.{has_target, ReferenceHolds}
 use Rattle.pm_values.specs.Table.{Declaration, FitsColumn, FitsColumns, IsRelation}
@@ -19,7 +17,7 @@ use Rattle.pm_values.proofs.ValueOrder.{same_values_equal}
 use Rattle.pm_plan.specs.declared.plan.Pair.{Pair}
 use Rattle.pm_plan.specs.Rows.{Db, rows_or_none, table_rows, decls_of}
 use Rattle.pm_plan.specs.Joins.{left_columns, right_columns, matches, joined_by}
-use Rattle.pm_plan.specs.Kinds.{columns_or_none, columns_of, width, table_width}
+use Rattle.pm_plan.specs.Kinds.{columns_or_none, columns_of, width}
 use Rattle.pm_plan.specs.References.{Entry, padded_if, entries, references_or_none, is_named, paired, same_pair, pairs_within, is_required, reads_required, within_entry, refers_by, refers_to, refers}
 use Rattle.pm_plan.specs.Valid.{tables_of}
 use Rattle.pm_plan.specs.Tree.{Unary, Merge, Tree, Scan, Over, Join, Index, keeps_columns, pads}

@@ -19,7 +19,7 @@ use Rattle.pm_plan.specs.declared.plan.Aggregate.{Aggregate}
 use Rattle.pm_plan.specs.declared.plan.Aggregate.TheVariants as aggregate
 use Rattle.pm_plan.specs.declared.plan.Pair.{Pair}
 use Rattle.pm_plan.specs.Rows.{Db, rows_or_none, table_rows, decls_of}
-use Rattle.pm_plan.specs.Joins.{keys_of, joined_by, padded_row}
+use Rattle.pm_plan.specs.Joins.{keys_of, joined_by}
 use Rattle.pm_plan.specs.Grouping.{column_values, plus, lesser, greater, folded, aggregate_of, group_row, grouped}
 use Rattle.pm_plan.specs.Kinds.{columns_or_none, table_kinds, kinds_of, width, kinds_over, kind_at, kind_of_item}
 use Rattle.pm_plan.specs.Tree.{Unary, Filter, Project, Sort, Group, Method, Merge, Tree, Scan, Over, Join, Index}

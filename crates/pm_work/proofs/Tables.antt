@@ -18,7 +18,6 @@ use Rattle.pm_plan.specs.Unique.{key_within, key_of, unique_table}
 use Rattle.pm_plan.specs.Valid.{are_below, order_or_none, order_of}
 use Rattle.pm_work.specs.Facts.{AtMostOne}
 
-
 -- rows that agree in columns agree in those among them
 abbrev first_of : Row → Value
 first_of [] = value.Null

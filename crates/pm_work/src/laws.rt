@@ -1,16 +1,19 @@
 //! The laws of the definitions, each the contract of a function that does nothing.
-ghost use Rattle.std.specs.Prelude.{◌≡◌, ℕ, ◌≤◌, true, List, length, All, Option};
+ghost use Rattle.std.specs.Prelude.{◌≡◌, ℕ, ◌≤◌, true, List, ◌++◌, length, All, Option};
 ghost use Rattle.pm_values.specs.Table.{IsRelation};
 ghost use Rattle.pm_values.specs.declared.condition.Cond.{Cond};
 ghost use Rattle.pm_plan.specs.Rows.{Db, decls_of};
-ghost use Rattle.pm_plan.specs.Tree.{Method, On, Seek, Tree, Join, Index, right_number, EachAt, sum_at};
+ghost use Rattle.pm_plan.specs.Tree.{Method, On, Seek, Tree, Join, Index, size, right_number, Each, EachAt, sum_at};
 ghost use Rattle.pm_plan.specs.Outputs.{output, sought};
 ghost use Rattle.pm_plan.specs.Unique.{unique_on};
-ghost use Rattle.pm_work.specs.Events.{events, rows_at};
+ghost use Rattle.pm_work.specs.Events.{Event, events, rows_at, counts};
 ghost use Rattle.pm_work.specs.Work.{whole_work};
-ghost use Rattle.pm_work.specs.Moments.{counts_at};
+ghost use Rattle.pm_work.specs.Moments.{Counts, HasGauges, gauges_of, gauge_in, counts_at};
+ghost use Rattle.pm_work.specs.Orderly.{Orderly};
 ghost use Rattle.pm_work.specs.Facts.{KeysDiffer, AtMostOne, AllFlagsHold, MergesAscend};
-ghost use Rattle.pm_work.specs.Fits.{IsSound};
+ghost use Rattle.pm_work.specs.Fits.{IsSound, sizes_of};
+ghost use Rattle.pm_work.specs.Formulas.{exact};
+ghost use Rattle.pm_work.specs.First.{first_hi, first_seek};
 
 /// The events number the whole work; and the rows that they give each node, and each Seek, are what it hands out in all,
 /// in order.
@@ -50,4 +53,24 @@ pub fn flags_hold()
 /// In a sound plan the keys of both sides of each merge join ascend.
 pub fn merges_ascend()
     ensures { (db : Db) (tree : Tree) → IsSound db tree → MergesAscend db tree }
+{}
+
+/// In a sound plan the counts of each moment are orderly: after any first part of the events, and so after the first t of
+/// them.
+pub fn moments_are_orderly()
+    ensures any { (db : Db) (tree : Tree) (done left : List Event) → IsSound db tree → done ++ left ≡ events db tree 1
+        → Orderly db tree 1 (counts done) }
+    ensures first { (db : Db) (tree : Tree) (t : ℕ) → IsSound db tree → Orderly db tree 1 (counts_at db tree t) }
+{}
+
+/// In a sound plan no operator hands out more rows than its first bound, which follows from the tables' sizes alone.
+pub fn rows_within_first()
+    ensures { (db : Db) (tree : Tree) → IsSound db tree → Each (λ t. length (output db t) ≤ first_hi exact (sizes_of db) t)
+        (λ left seek. length (sought db seek (output db left)) ≤ first_seek exact (sizes_of db) seek (first_hi exact (sizes_of db) left)) tree }
+{}
+
+/// The gauges in preorder are read by the numbers of their nodes, one for each.
+pub fn gauges_are_read()
+    ensures gauges { (db : Db) (tree : Tree) (K : Counts) → HasGauges db tree 1 K (gauge_in (gauges_of db tree 1 K)) }
+    ensures each_node { (db : Db) (tree : Tree) (n : ℕ) (K : Counts) → length (gauges_of db tree n K) ≡ size tree }
 {}
