@@ -2,12 +2,11 @@
 use Rattle.std.specs.Prelude.{ℕ, ◌+◌, ◌==◌, Bool, true, false, ◌&&◌, if◌then◌else◌, List, [], ◌∷◌, ◌++◌, length, map, filter, Option}
 use Rattle.std.specs.List.{flat_map, list_any}
 use Rattle.pm_values.specs.declared.condition.Cond.{Cond}
-use Rattle.pm_values.specs.Row.{Row, pick}
-use Rattle.pm_values.specs.Condition.{keeps}
+use Rattle.pm_values.specs.Row.{Row}
 use Rattle.pm_plan.specs.declared.plan.Pair.{Pair}
 use Rattle.pm_plan.specs.Rows.{Db, table_rows, decls_of}
 use Rattle.pm_plan.specs.Joins.{matches, joined_rows, rows_for, is_greater}
-use Rattle.pm_plan.specs.Tree.{Unary, Method, Hash, Merge, On, Tree, Scan, Over, Join, Index, streams, right_number}
+use Rattle.pm_plan.specs.Tree.{Unary, Method, Hash, Merge, Tree, Scan, Over, Join, Index, streams, right_number}
 use Rattle.pm_plan.specs.Kinds.{width}
 use Rattle.pm_plan.specs.Outputs.{output, rows_over, keeps_if}
 

@@ -1,5 +1,5 @@
 -- the first bounds: the upper bounds where nothing is counted, which follow from the sizes of the tables alone
-use Rattle.std.specs.Prelude.{◌≡◌, ℕ, ◌-◌, ◌^◌, Bool, true, false, nat_lt, if◌then◌else◌, List, [], ◌∷◌, get_or, min, find, Option, None, Some}
+use Rattle.std.specs.Prelude.{ℕ, ◌-◌, ◌^◌, Bool, true, false, nat_lt, if◌then◌else◌, List, [], ◌∷◌, get_or, min, find, Option, Some}
 use Rattle.std.specs.List.{list_any}
 use Rattle.pm_plan.specs.declared.gauge.Gauge.{Gauge}
 use Rattle.pm_plan.specs.declared.plan.Aggregate.{Aggregate}

@@ -1,7 +1,6 @@
 -- the plans that are run over a database
-use Rattle.std.specs.Prelude.{◌≡◌, ℕ, true, List, map, length, slice_get, Option, None, All}
-use Rattle.pm_values.specs.declared.table.Reference.{Reference}
-use Rattle.pm_values.specs.Table.{Declaration, IsRelation}
+use Rattle.std.specs.Prelude.{◌≡◌, ℕ, true, map, length, slice_get, None, All}
+use Rattle.pm_values.specs.Table.{IsRelation}
 use Rattle.pm_values.specs.References.{ReferenceHolds}
 use Rattle.pm_plan.specs.declared.plan.Plan.{Plan}
 use Rattle.pm_plan.specs.Rows.{Db, table_rows, decls_of}

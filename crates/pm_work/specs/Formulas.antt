@@ -2,7 +2,7 @@
 use Rattle.std.specs.Prelude.{ℕ, ◌+◌, ◌-◌, ◌*◌, Bool, true, false, List, [], ◌∷◌, min, max}
 use Rattle.pm_plan.specs.declared.plan.Unique.{Unique}
 use Rattle.pm_plan.specs.declared.gauge.Gauge.{Gauge}
-use Rattle.pm_plan.specs.Tree.{Unary, Filter, Project, Sort, Group, Method, Hash, Merge, On}
+use Rattle.pm_plan.specs.Tree.{Unary, Filter, Project, Sort, Group, Method, Hash, Merge}
 
 -- sums and products: the exact ones, and those that stop at a greatest number
 pub record Arithmetic : Type 0 where

@@ -1,5 +1,5 @@
 -- what stands at each operator after some events: its count, and what is settled by the counts below it
-use Rattle.std.specs.Prelude.{◌≡◌, ℕ, ◌+◌, ◌-◌, List, [], ◌∷◌, ◌++◌, length, take, filter, get_or}
+use Rattle.std.specs.Prelude.{◌≡◌, ℕ, ◌+◌, ◌-◌, List, length, take, filter, get_or}
 use Rattle.pm_values.specs.Row.{Row}
 use Rattle.pm_plan.specs.declared.gauge.Gauge.{Gauge}
 use Rattle.pm_plan.specs.declared.plan.Pair.{Pair}

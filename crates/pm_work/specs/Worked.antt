@@ -1,8 +1,8 @@
 -- plans for worked examples
-use Rattle.std.specs.Prelude.{ℕ, true, false, List, [], ◌∷◌, None, codes}
+use Rattle.std.specs.Prelude.{true, false, [], ◌∷◌, None, codes}
 use Rattle.pm_values.specs.declared.condition.Comparison.TheVariants as comparison
 use Rattle.pm_plan.specs.declared.plan.Aggregate.TheVariants as aggregate
-use Rattle.pm_plan.specs.Tree.{Unary, Filter, Project, Sort, Group, Hash, Merge, Tree, Scan, Over, Join, Index, Seek}
+use Rattle.pm_plan.specs.Tree.{Filter, Project, Sort, Group, Hash, Merge, Tree, Scan, Over, Join, Index, Seek}
 use Rattle.pm_plan.specs.Worked.{label, against, pair, flags, on}
 
 abbrev pub scan_orders : Tree

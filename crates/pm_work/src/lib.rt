@@ -2,4 +2,5 @@
 //! whole work, counted in rows (the getnext model of work of Chaudhuri, Narasayya and Ramamurthy, SIGMOD 2004).
 #![tactic(auto)]
 
+mod laws;
 mod worked;
