@@ -264,5 +264,10 @@ module _ (top : ℕ) (one : 1 ≤ top) (sizes : Sizes) (few : SizesUpTo top size
   first_sum_is (Join method on left right) =
       omega (arith, first_capped_is (Join method on left right), capped_sum-append (first_bounds (up_to top) sizes left) (first_bounds (up_to top) sizes right), first_sum_is left, first_sum_is right)
   first_sum_is (Index left seek c) =
-      omega (arith, first_capped_is (Index left seek c),
-      capped_sum-append (first_bounds (up_to top) sizes left) (first_seek (up_to top) sizes seek (first_hi (up_to top) sizes left) ∷ []), first_sum_is left, first_seek_is left seek)
+      omega (
+        arith,
+        first_capped_is (Index left seek c),
+        capped_sum-append (first_bounds (up_to top) sizes left) (first_seek (up_to top) sizes seek (first_hi (up_to top) sizes left) ∷ []),
+        first_sum_is left,
+        first_seek_is left seek,
+      )

@@ -11,3 +11,5 @@ pub mod Wholes
 pub mod BoundLists
 pub mod Caps
 pub mod CapsHold
+pub mod Moments
+pub mod Ends

@@ -50,13 +50,19 @@ whole_enclosed db tree G e =
           sum_at-le (handed_at G) (lo_at G) (seek_handed G) (seek_lo G) tree 1
           (EachAt-map (λ t m. Encloses (G m).handed (bound_of t m G) (length (output db t))) (λ t m. (G m).handed ≤ lo t m G) (λ left seek m. Encloses (G (right_number m left)).handed (bound_of_seek left seek m G) (length (sought db seek (output db left)))) (λ left seek m. (G (right_number m left)).handed ≤ lo_of_seek left seek m G) (λ t m x. x.counted) (λ left seek m x. x.counted) tree 1 e);
       below =
-          omega (arith, rows_summed db tree 1,
-          sum_at-le (lo_at G) (rows db) (seek_lo G) (seek_rows db) tree 1
-          (EachAt-map (λ t m. Encloses (G m).handed (bound_of t m G) (length (output db t))) (λ t m. lo t m G ≤ length (output db t)) (λ left seek m. Encloses (G (right_number m left)).handed (bound_of_seek left seek m G) (length (sought db seek (output db left)))) (λ left seek m. lo_of_seek left seek m G ≤ length (sought db seek (output db left))) (λ t m x. x.below) (λ left seek m x. x.below) tree 1 e));
+          omega (
+            arith,
+            rows_summed db tree 1,
+            sum_at-le (lo_at G) (rows db) (seek_lo G) (seek_rows db) tree 1
+                (EachAt-map (λ t m. Encloses (G m).handed (bound_of t m G) (length (output db t))) (λ t m. lo t m G ≤ length (output db t)) (λ left seek m. Encloses (G (right_number m left)).handed (bound_of_seek left seek m G) (length (sought db seek (output db left)))) (λ left seek m. lo_of_seek left seek m G ≤ length (sought db seek (output db left))) (λ t m x. x.below) (λ left seek m x. x.below) tree 1 e),
+          );
       above =
-          omega (arith, rows_summed db tree 1,
-          sum_at-le (rows db) (hi_at G) (seek_rows db) (seek_hi_at G) tree 1
-          (EachAt-map (λ t m. Encloses (G m).handed (bound_of t m G) (length (output db t))) (λ t m. length (output db t) ≤ hi t m G) (λ left seek m. Encloses (G (right_number m left)).handed (bound_of_seek left seek m G) (length (sought db seek (output db left)))) (λ left seek m. length (sought db seek (output db left)) ≤ hi_of_seek left seek m G) (λ t m x. x.above) (λ left seek m x. x.above) tree 1 e));
+          omega (
+            arith,
+            rows_summed db tree 1,
+            sum_at-le (rows db) (hi_at G) (seek_rows db) (seek_hi_at G) tree 1
+                (EachAt-map (λ t m. Encloses (G m).handed (bound_of t m G) (length (output db t))) (λ t m. length (output db t) ≤ hi t m G) (λ left seek m. Encloses (G (right_number m left)).handed (bound_of_seek left seek m G) (length (sought db seek (output db left)))) (λ left seek m. length (sought db seek (output db left)) ≤ hi_of_seek left seek m G) (λ t m x. x.above) (λ left seek m x. x.above) tree 1 e),
+          );
     }
 
 pub whole_narrow : (tree : Tree) (G H : Gauges) → AllNarrow tree 1 G H → Narrows (whole_bound tree G) (whole_bound tree H)
@@ -72,9 +78,11 @@ whole_narrow tree G H e =
 
 pub whole_within_first : (sizes : Sizes) (tree : Tree) (G : Gauges) → AllWithinFirst sizes tree 1 G → hi_whole tree G ≤ first_sum sizes tree
 whole_within_first sizes tree G e =
-    omega (arith,
-    sum_at-sum_in (first_hi exact sizes) (λ left seek. first_seek exact sizes seek (first_hi exact sizes left)) tree 1,
-    sum_at-le (hi_at G) (λ t m. first_hi exact sizes t) (seek_hi_at G) (λ left seek m. first_seek exact sizes seek (first_hi exact sizes left)) tree 1 e)
+    omega (
+      arith,
+      sum_at-sum_in (first_hi exact sizes) (λ left seek. first_seek exact sizes seek (first_hi exact sizes left)) tree 1,
+      sum_at-le (hi_at G) (λ t m. first_hi exact sizes t) (seek_hi_at G) (λ left seek m. first_seek exact sizes seek (first_hi exact sizes left)) tree 1 e,
+    )
 
 pub whole_exact : (db : Db) (tree : Tree) (G : Gauges) → AllExact db tree 1 G → IsExact (whole_bound tree G) (whole_work db tree)
 whole_exact db tree G e =

@@ -2,4 +2,5 @@
 //! that say so: they enclose the truth, never widen, and are exact at the end.
 #![tactic(auto)]
 
+mod laws;
 mod worked;
