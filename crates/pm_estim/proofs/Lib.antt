@@ -1,0 +1,3 @@
+pub mod Estimates
+pub mod Drivers
+pub mod Certain

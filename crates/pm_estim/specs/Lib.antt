@@ -1,0 +1,3 @@
+pub mod Pipelines
+pub mod Estimates
+pub mod Certified
