@@ -13,7 +13,7 @@ mod rows;
 pub use fault::LineBad;
 pub use plan::put_plan;
 pub use progress::{put_end, put_progress};
-pub use refusal::{Values, Word, put_refusal};
+pub use refusal::{Values, put_refusal};
 pub use rows::{put_head, put_row};
 
 #[cfg(test)]

@@ -1,40 +1,14 @@
+//! The line of a refusal.
 ghost use Rattle.std.specs.Prelude.{◌≡◌, ◌≤◌, ◌+◌, ◌++◌, length, codes, option_map, None, Some, OnOk, OnErr};
 ghost use Rattle.pm_io.specs.Counts.{Rose};
 ghost use Rattle.pm_io.specs.Sink.{gained, GainsPart};
-ghost use Rattle.pm_lines.specs.Refusals.{word_text, values_text, refusal_front, refusal_line};
+ghost use Rattle.pm_refusals.specs.Words.{word_text};
+ghost use Rattle.pm_lines.specs.Refusals.{values_text, refusal_front, refusal_line};
 
 use crate::buffer::Line;
 use pm_io::{Sink, WriteFault, write_whole};
+use pm_refusals::Word;
 use pm_values::Txt;
-
-/// The word of a refusal line, which says what was refused.
-#[derive(Clone, Copy, Debug, PartialEq, Eq)]
-pub enum Word {
-    Usage,
-    TooLong,
-    NotText,
-    BadChar,
-    OpenText,
-    LongNumber,
-    LongName,
-    Expected,
-    TooDeep,
-    TooMany,
-    DoubleTable,
-    DoubleColumn,
-    KeyColumn,
-    NullKey,
-    NoHeader,
-    Header,
-    TooManyRows,
-    Width,
-    Field,
-    DoubleKey,
-    OutOfOrder,
-    NoFile,
-    Read,
-    NotBuilt,
-}
 
 /// The numbers at the end of a refusal line.
 #[derive(Clone, Copy, Debug, PartialEq, Eq)]
@@ -143,32 +117,7 @@ fn push_word(line: &mut Line, word: Word)
     ensures text { line.new ≡ line.old ++ word_text word }
     ensures len { length line.new ≤ length line.old + 20 }
 {
-    line.push(match word {
-        Word::Usage => "usage",
-        Word::TooLong => "toolong",
-        Word::NotText => "nottext",
-        Word::BadChar => "badchar",
-        Word::OpenText => "opentext",
-        Word::LongNumber => "longnumber",
-        Word::LongName => "longname",
-        Word::Expected => "expected",
-        Word::TooDeep => "toodeep",
-        Word::TooMany => "toomany",
-        Word::DoubleTable => "doubletable",
-        Word::DoubleColumn => "doublecolumn",
-        Word::KeyColumn => "keycolumn",
-        Word::NullKey => "nullkey",
-        Word::NoHeader => "noheader",
-        Word::Header => "header",
-        Word::TooManyRows => "toomanyrows",
-        Word::Width => "width",
-        Word::Field => "field",
-        Word::DoubleKey => "doublekey",
-        Word::OutOfOrder => "outoforder",
-        Word::NoFile => "nofile",
-        Word::Read => "read",
-        Word::NotBuilt => "notbuilt",
-    });
+    line.push(word.text());
 }
 
 fn push_values(line: &mut Line, values: Values)

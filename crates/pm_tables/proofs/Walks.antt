@@ -6,7 +6,7 @@ use Rattle.std.proofs.lemmas.Bool.{eq-eqb, eqb-true}
 use Rattle.std.proofs.lemmas.Grind.{get_or-set_at}
 use Rattle.std.proofs.lemmas.List.{get_or-set_other, length-append}
 use Rattle.pm_values.specs.declared.value.Value.{Value}
-use Rattle.pm_values.specs.Order.{pick_at}
+use Rattle.pm_values.specs.Order.{key_at}
 use Rattle.pm_tables.specs.Keys.{AreChained, IsLatest}
 
 -- row j is not behind the place that is left
@@ -95,9 +95,9 @@ chained_push hash earlier n o count chained latest = λ k lt.
     ]
 
 pub distinct_next : (columns : List ℕ) (rows : List (List Value)) (n : ℕ)
-    → ((i j : ℕ) → i < j → j < n → pick_at columns rows i ≢ pick_at columns rows j)
-    → ((j : ℕ) → j < n → pick_at columns rows j ≢ pick_at columns rows n)
-    → (i j : ℕ) → i < j → j < n + 1 → pick_at columns rows i ≢ pick_at columns rows j
+    → ((i j : ℕ) → i < j → j < n → key_at columns rows i ≢ key_at columns rows j)
+    → ((j : ℕ) → j < n → key_at columns rows j ≢ key_at columns rows n)
+    → (i j : ℕ) → i < j → j < n + 1 → key_at columns rows i ≢ key_at columns rows j
 distinct_next columns rows n before_n at_n i j low lt same = elim (lt_or_le j n) [
   | inl old ↦ before_n i j low old same
   | inr ge ↦ let here : j ≡ n = omega arith in at_n i (omega (arith, low, here)) (rw here at same)

@@ -3,7 +3,7 @@ use Rattle.std.specs.Prelude.{◌≡◌, ◌≢◌, ◌+◌, ◌<◌, ℕ, suc, 
 use Rattle.std.specs.declared.cmp.Ordering.TheVariants as ordering
 use Rattle.pm_values.specs.declared.value.Value.{Value}
 use Rattle.pm_values.specs.Table.{Declaration}
-use Rattle.pm_values.specs.Order.{KeyHolds, pick_at, values_cmp}
+use Rattle.pm_values.specs.Order.{KeyHolds, key_at, values_cmp}
 use Rattle.pm_tables.specs.declared.fault.DataBad.{DataBad}
 use Rattle.pm_tables.specs.declared.fault.DataBad.TheVariants as bad
 
@@ -11,15 +11,15 @@ use Rattle.pm_tables.specs.declared.fault.DataBad.TheVariants as bad
 pub record RepeatsFirst (columns : List ℕ) (rows : List (List Value)) (i j : ℕ) : Type 0 where
   pub order : i < j
   pub within : j < length rows
-  pub same : pick_at columns rows i ≡ pick_at columns rows j
-  pub first : (h k : ℕ) → h < k → k < j → pick_at columns rows h ≢ pick_at columns rows k
-  pub least : (h : ℕ) → h < i → pick_at columns rows h ≢ pick_at columns rows j
+  pub same : key_at columns rows i ≡ key_at columns rows j
+  pub first : (h k : ℕ) → h < k → k < j → key_at columns rows h ≢ key_at columns rows k
+  pub least : (h : ℕ) → h < i → key_at columns rows h ≢ key_at columns rows j
 
 -- row i + 1, from 0, is the first that is below the one before by these columns
 pub record FallsFirst (columns : List ℕ) (rows : List (List Value)) (i : ℕ) : Type 0 where
   pub within : suc i < length rows
-  pub falls : values_cmp (pick_at columns rows i) (pick_at columns rows (suc i)) ≡ ordering.Greater
-  pub first : (k : ℕ) → k < i → values_cmp (pick_at columns rows k) (pick_at columns rows (suc k)) ≢ ordering.Greater
+  pub falls : values_cmp (key_at columns rows i) (key_at columns rows (suc i)) ≡ ordering.Greater
+  pub first : (k : ℕ) → k < i → values_cmp (key_at columns rows k) (key_at columns rows (suc k)) ≢ ordering.Greater
 
 -- why the rows are no table: want of memory, the first repeated KEY, or where KEY holds the first fall of ORDER
 abbrev pub FaultsTable : Declaration → List (List Value) → DataBad → Type 0

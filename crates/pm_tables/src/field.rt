@@ -1,6 +1,6 @@
 ghost use Rattle.std.specs.Prelude.{◌≡◌, ◌≤◌, ◌<◌, ◌*◌, ◌+◌, ◌^◌, ◌++◌, ◌↔◌, ℕ, ℤ, IsTrue, Some, None, take, drop, length, IfOk, MatchOption};
 ghost use Rattle.std.specs.Str.Parse.{AllDigits, IsNumeral, digits_value, digits_value_after, starts_with_minus, without_leading_sign};
-ghost use Rattle.pm_values.specs.Table.{HasScale};
+ghost use Rattle.pm_values.specs.Table.{HasValidKind};
 ghost use Rattle.pm_tables.specs.Worked.{InHundredths, InWholeNumbers};
 ghost use Rattle.pm_tables.specs.Field.{AreZeros, HasValue, HasNoValue, IsDecimal, IsScaled, WritesInt, WritesScaled, point_of, with_sign_of};
 
@@ -16,7 +16,7 @@ pub fn field_value(
     column: &ColumnDecl,
     field: &str,
 ) -> Result<Option<Value>, AllocError>
-    requires { HasScale column.now }
+    requires { HasValidKind column.now }
     ensures { IfOk result (λ found. MatchOption found (HasNoValue column.now field.now) (λ v. HasValue column.now field.now v)) }
 {
     if column.nullable && field.is_empty() {

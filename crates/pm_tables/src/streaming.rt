@@ -1,6 +1,6 @@
 ghost use Rattle.std.specs.Prelude.{◌≡◌, ◌≤◌, ◌∷◌, ℕ, List, [], All, IfErr, IfOk, MatchResult, length};
 ghost use Rattle.csv.specs.Records.{fields_of};
-ghost use Rattle.pm_values.specs.Table.{HasScale};
+ghost use Rattle.pm_values.specs.Table.{HasValidKind};
 ghost use Rattle.pm_tables.specs.HasRead.{HasRead};
 ghost use Rattle.pm_tables.specs.Loading.{FaultsBehind, WritesBehind};
 ghost use Rattle.pm_tables.specs.Typing.{FaultsRecord, WritesRow};
@@ -21,7 +21,7 @@ pub(crate) fn type_all(
     most: u32,
 ) -> Result<Rows, DataBad>
     requires narrow { length columns.now ≤ 64 }
-    requires scales { All HasScale columns.now }
+    requires scales { All HasValidKind columns.now }
     ensures typed { (text : List ℕ) (header : List (List ℕ)) → HasRead text (header ∷ []) reader.old → IfOk result (WritesBehind columns.now text header most) }
     ensures refused { (text : List ℕ) (header : List (List ℕ)) → HasRead text (header ∷ []) reader.old → IfErr result (FaultsBehind columns.now text header most) }
 {
@@ -51,7 +51,7 @@ fn type_record(
     number: u32,
 ) -> Result<Row, DataBad>
     requires narrow { length columns.now ≤ 64 }
-    requires scales { All HasScale columns.now }
+    requires scales { All HasValidKind columns.now }
     ensures { MatchResult result (WritesRow columns.now (fields_of taken.now)) (FaultsRecord columns.now (fields_of taken.now) number) }
 {
     type_row(alloc, columns, taken, 0, taken.len(), number)

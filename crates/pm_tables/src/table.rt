@@ -1,6 +1,6 @@
 ghost use Rattle.std.specs.Prelude.{◌≡◌, ◌≢◌, ◌<◌, ◌≤◌, ◌+◌, ◌^◌, ℕ, All, IfErr, IfOk, IsTrue, MatchOption, get_or, length};
-ghost use Rattle.pm_values.specs.Order.{Ascends, IsKey, NamesColumns, pick_at};
-ghost use Rattle.pm_values.specs.Table.{FitsColumns, HasScale};
+ghost use Rattle.pm_values.specs.Order.{Ascends, IsKey, NamesColumns, key_at};
+ghost use Rattle.pm_values.specs.Table.{FitsColumns, HasValidKind};
 ghost use Rattle.pm_tables.specs.Keys.{AreChained, IsLatest, bucket_at};
 ghost use Rattle.pm_tables.specs.Table.{FallsFirst, FaultsTable, HaveColumns, RepeatsFirst};
 
@@ -113,8 +113,8 @@ fn find_same(
     requires start { IsLatest (bucket_at columns.now rows.now) at (bucket_at columns.now rows.now at) start }
     requires count { length earlier.now ≡ at }
     requires chained { AreChained (bucket_at columns.now rows.now) earlier.now }
-    ensures { MatchOption result ((j : ℕ) → j < at → pick_at columns.now rows.now j ≢ pick_at columns.now rows.now at)
-        (λ i. (i < at) × (pick_at columns.now rows.now i ≡ pick_at columns.now rows.now at)) }
+    ensures { MatchOption result ((j : ℕ) → j < at → key_at columns.now rows.now j ≢ key_at columns.now rows.now at)
+        (λ i. (i < at) × (key_at columns.now rows.now i ≡ key_at columns.now rows.now at)) }
 {
     let mut next = start;
     while let Some(i) = next {

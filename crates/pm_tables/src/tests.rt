@@ -1,6 +1,6 @@
 ghost use Rattle.std.specs.Prelude.{◌≡◌, All, IfOk, length};
 ghost use Rattle.pm_values.specs.Order.{NamesColumns};
-ghost use Rattle.pm_values.specs.Table.{HasScale, IsScale};
+ghost use Rattle.pm_values.specs.Table.{HasValidKind, IsValidKind};
 
 use crate::loading::load;
 use crate::reading::records;
@@ -21,10 +21,10 @@ fn column(alloc: Global, name: &str, kind: Kind, nullable: bool) -> Result<Colum
 }
 
 fn columns(alloc: Global, first: Kind, second: Kind) -> Result<ColumnDecls, AllocError>
-    requires first { IsScale first }
-    requires second { IsScale second }
+    requires first { IsValidKind first }
+    requires second { IsValidKind second }
     ensures count { IfOk result (λ columns. length columns ≡ 2) }
-    ensures scales { IfOk result (All HasScale) }
+    ensures scales { IfOk result (All HasValidKind) }
 {
     let mut columns = ColumnDecls::new(alloc);
     columns.push(column(alloc, "p", first, second == Kind::Int)?)?;
@@ -50,8 +50,8 @@ fn declared(
     key: bool,
     order: bool,
 ) -> Result<TableDecl, AllocError>
-    requires first { IsScale first }
-    requires second { IsScale second }
+    requires first { IsValidKind first }
+    requires second { IsValidKind second }
 {
     let name = Txt::new(alloc, "t")?;
     let file = Txt::new(alloc, "t.csv")?;

@@ -1,6 +1,6 @@
 ghost use Rattle.std.specs.Prelude.{◌≡◌, ◌+◌, ◌^◌, ◌<◌, ◌≤◌, [], All, IfErr, IfOk, MatchResult, get_or, length, slice_range};
 ghost use Rattle.csv.specs.Records.{fields_of};
-ghost use Rattle.pm_values.specs.Table.{FitsColumns, HasScale};
+ghost use Rattle.pm_values.specs.Table.{FitsColumns, HasValidKind};
 ghost use Rattle.pm_tables.specs.Typing.{FaultsFirst, FaultsRecord, WritesRow, WritesRows};
 
 use crate::fault::DataBad;
@@ -47,7 +47,7 @@ pub(crate) fn type_row(
     number: u32,
 ) -> Result<Row, DataBad>
     requires narrow { length columns.now ≤ 64 }
-    requires scales { All HasScale columns.now }
+    requires scales { All HasValidKind columns.now }
     requires order { start ≤ end }
     requires within { end ≤ length (fields_of fields.now) }
     ensures { MatchResult result (WritesRow columns.now (slice_range (fields_of fields.now) start end))
