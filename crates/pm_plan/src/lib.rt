@@ -9,13 +9,16 @@ mod kinds;
 mod laws;
 mod numbering;
 mod plan;
+mod references;
 mod root;
 mod shape;
 mod text;
 mod uniqueness;
+mod valid;
 
 pub use gauge::{Bound, Gauge, Shown, Whole};
 pub use plan::{
     Aggregate, Aggregates, Label, Node, Nodes, Pair, Pairs, Plan, SortKey, SortKeys, Unique,
 };
 pub use text::{node_text, plan_text};
+pub use valid::check_plan;
