@@ -7,6 +7,7 @@ pub mod Agreement
 pub mod Ends
 pub mod Lists
 pub mod Referring
+pub mod Sorts
 pub mod Conditions
 pub mod Rules
 pub mod PlanLines
