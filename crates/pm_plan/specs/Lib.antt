@@ -14,3 +14,4 @@ pub mod Standing
 pub mod Fitting
 pub mod PlanLines
 pub mod Worked
+pub mod WorkedPlans

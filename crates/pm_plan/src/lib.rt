@@ -15,6 +15,7 @@ mod shape;
 mod text;
 mod uniqueness;
 mod valid;
+mod worked;
 
 pub use gauge::{Bound, Gauge, Shown, Whole};
 pub use plan::{
