@@ -1,4 +1,13 @@
 pub mod Walks
 pub mod Preorders
+pub mod Inversion
+pub mod Subplans
+pub mod Tests
+pub mod Agreement
+pub mod Ends
 pub mod Lists
+pub mod Referring
+pub mod Sorts
 pub mod Conditions
+pub mod Rules
+pub mod PlanLines
