@@ -1,0 +1,10 @@
+pub mod Phrases
+pub mod Readers
+pub mod Lists
+pub mod Furthers
+pub mod Firsts
+pub mod Repeats
+pub mod Turns
+pub mod Called
+pub mod Exclusive
+pub mod Outcomes
