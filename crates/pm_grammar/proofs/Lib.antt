@@ -8,3 +8,6 @@ pub mod Turns
 pub mod Called
 pub mod Exclusive
 pub mod Outcomes
+pub mod Sets
+pub mod Helpers
+pub mod Symbols
