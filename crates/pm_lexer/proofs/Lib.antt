@@ -8,6 +8,9 @@ pub mod Quotation
 pub mod Doubling
 pub mod Readers
 pub mod Walk
+pub mod Runs
+pub mod Forms
+pub mod InTurns
 pub mod Repeats
 pub mod Turns
 pub mod Called

@@ -4,6 +4,8 @@ pub mod Pieces
 pub mod Symbol
 pub mod Quoting
 pub mod Tokens
+pub mod Words
+pub mod Parts
 pub mod Language
 pub mod Reading
 pub mod Answers

@@ -5,6 +5,7 @@
 
 pub mod fault;
 pub mod head;
+pub mod laws;
 pub mod lexing;
 pub mod quoting;
 pub mod symbol;
