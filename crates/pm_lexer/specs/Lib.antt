@@ -6,6 +6,3 @@ pub mod Quoting
 pub mod Tokens
 pub mod Words
 pub mod Parts
-pub mod Language
-pub mod Reading
-pub mod Answers

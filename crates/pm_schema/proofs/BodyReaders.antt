@@ -3,14 +3,14 @@ use Rattle.std.proofs.Common.{◌≡◌, ◌⊎◌, ◌≤◌, ◌<◌, ℕ, zer
 use Rattle.pm_lexer.specs.declared.token.Token.{Token}
 use Rattle.pm_lexer.specs.declared.symbol.Symbol.TheVariants as symbol
 use Rattle.pm_lexer.specs.Symbol.{is, same_symbol}
-use Rattle.pm_lexer.specs.Language.{Gate, Is, Within, IsMore}
-use Rattle.pm_lexer.specs.Reading.{Stop, too_many, Read, ◌>>=◌, place_of, sees, token_at, entry_at}
-use Rattle.pm_lexer.proofs.Phrases.{Phrase, Next, Avoids, Law, Reader, Able}
-use Rattle.pm_lexer.proofs.Readers.{Then, Or, Same, same_law, first_law, second_law, first_began, then_law, then_began, pure_reader, not_seen}
-use Rattle.pm_lexer.proofs.Lists.{ThenSome, some_law, More, Entry, entry_able, past_law}
-use Rattle.pm_lexer.proofs.Lists.{Some as SomeOf}
-use Rattle.pm_lexer.proofs.Furthers.{seen_head, none_seen, past, not_past, no_longer, Refused}
-use Rattle.pm_lexer.proofs.Firsts.{not_both, seen_law, first_peek, BeginsWith, bars}
+use Rattle.pm_grammar.specs.Language.{Gate, Is, Within, IsMore}
+use Rattle.pm_grammar.specs.Reading.{Stop, too_many, Read, ◌>>=◌, place_of, sees, token_at, entry_at}
+use Rattle.pm_grammar.proofs.Phrases.{Phrase, Next, Avoids, Law, Reader, Able}
+use Rattle.pm_grammar.proofs.Readers.{Then, Or, Same, same_law, first_law, second_law, first_began, then_law, then_began, pure_reader, not_seen}
+use Rattle.pm_grammar.proofs.Lists.{ThenSome, some_law, More, Entry, entry_able, past_law}
+use Rattle.pm_grammar.proofs.Lists.{Some as SomeOf}
+use Rattle.pm_grammar.proofs.Furthers.{seen_head, none_seen, past, not_past, no_longer, Refused}
+use Rattle.pm_grammar.proofs.Firsts.{not_both, seen_law, first_peek, BeginsWith, bars}
 use Rattle.pm_schema.specs.declared.tree.Terminal.TheVariants as terminal
 use Rattle.pm_schema.specs.declared.tree.ColumnText.{ColumnText}
 use Rattle.pm_schema.specs.declared.tree.Body.{Body}

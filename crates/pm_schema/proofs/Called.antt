@@ -3,11 +3,11 @@ use Rattle.std.proofs.Common.{◌≡◌, ◌≤◌, ◌⊎◌, ℕ, List, ◌∷
 use Rattle.std.proofs.lemmas.List.{length-map}
 use Rattle.pm_lexer.specs.declared.token.Token.{Token}
 use Rattle.pm_lexer.specs.Tokens.{tokens_of}
-use Rattle.pm_lexer.specs.Reading.{Stop, expected, too_deep, too_many, whole}
-use Rattle.pm_lexer.specs.Answers.{within, TooDeepIn, CallsFor as Calls}
-use Rattle.pm_lexer.proofs.Phrases.{Law, Nothing}
-use Rattle.pm_lexer.proofs.Called.{law_calls}
-use Rattle.pm_lexer.proofs.Exclusive.{answers_same}
+use Rattle.pm_grammar.specs.Reading.{Stop, expected, too_deep, too_many, whole}
+use Rattle.pm_grammar.specs.Answers.{within, TooDeepIn, CallsFor as Calls}
+use Rattle.pm_grammar.proofs.Phrases.{Law, Nothing}
+use Rattle.pm_grammar.proofs.Called.{law_calls}
+use Rattle.pm_grammar.proofs.Exclusive.{answers_same}
 use Rattle.pm_values.specs.Table.{Declaration}
 use Rattle.pm_schema.specs.declared.tree.TableText.{TableText}
 use Rattle.pm_schema.specs.declared.fault.SchemaBad.{SchemaBad}

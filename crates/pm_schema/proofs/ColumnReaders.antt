@@ -3,12 +3,12 @@ use Rattle.std.proofs.Common.{◌≡◌, ◌⊎◌, ℕ, Bool, true, false, [], 
 use Rattle.pm_lexer.specs.declared.token.Token.{Token}
 use Rattle.pm_lexer.specs.declared.symbol.Symbol.TheVariants as symbol
 use Rattle.pm_lexer.specs.Symbol.{is}
-use Rattle.pm_lexer.specs.Language.{Is}
-use Rattle.pm_lexer.specs.Reading.{◌>>=◌}
-use Rattle.pm_lexer.proofs.Phrases.{Phrase, Reader, Nothing}
-use Rattle.pm_lexer.proofs.Readers.{Then, Or, Same, pure_reader, then_reader, token_reader, same_reader, map_reader}
-use Rattle.pm_lexer.proofs.Furthers.{behind_reader, optional_reader}
-use Rattle.pm_lexer.proofs.Firsts.{BeginsWith, bars}
+use Rattle.pm_grammar.specs.Language.{Is}
+use Rattle.pm_grammar.specs.Reading.{◌>>=◌}
+use Rattle.pm_grammar.proofs.Phrases.{Phrase, Reader, Nothing}
+use Rattle.pm_grammar.proofs.Readers.{Then, Or, Same, pure_reader, then_reader, token_reader, same_reader, map_reader}
+use Rattle.pm_grammar.proofs.Furthers.{behind_reader, optional_reader}
+use Rattle.pm_grammar.proofs.Firsts.{BeginsWith, bars}
 use Rattle.pm_values.specs.declared.value.Kind.{Kind}
 use Rattle.pm_values.specs.declared.value.Kind.TheVariants as kind
 use Rattle.pm_schema.specs.declared.tree.Word.TheVariants as word

@@ -3,12 +3,12 @@ use Rattle.std.proofs.Common.{◌≡◌, ℕ, true, List, Some, None, refl, code
 use Rattle.pm_lexer.specs.declared.token.Token.{Token}
 use Rattle.pm_lexer.specs.declared.symbol.Symbol.TheVariants as symbol
 use Rattle.pm_lexer.specs.Symbol.{is, same_symbol}
-use Rattle.pm_lexer.specs.Language.{Is, IsList}
-use Rattle.pm_lexer.specs.Reading.{token_at, list_at}
-use Rattle.pm_lexer.proofs.Phrases.{Phrase, Reader, Nothing}
-use Rattle.pm_lexer.proofs.Readers.{pure_reader, then_reader, token_reader, map_reader}
-use Rattle.pm_lexer.proofs.Furthers.{list_reader, optional_reader}
-use Rattle.pm_lexer.proofs.Firsts.{not_both, first_peek}
+use Rattle.pm_grammar.specs.Language.{Is, IsList}
+use Rattle.pm_grammar.specs.Reading.{token_at, list_at}
+use Rattle.pm_grammar.proofs.Phrases.{Phrase, Reader, Nothing}
+use Rattle.pm_grammar.proofs.Readers.{pure_reader, then_reader, token_reader, map_reader}
+use Rattle.pm_grammar.proofs.Furthers.{list_reader, optional_reader}
+use Rattle.pm_grammar.proofs.Firsts.{not_both, first_peek}
 use Rattle.pm_schema.specs.declared.tree.Terminal.TheVariants as terminal
 use Rattle.pm_schema.specs.declared.tree.ColumnText.{ColumnText}
 use Rattle.pm_schema.specs.declared.tree.Body.{Body}

@@ -10,7 +10,7 @@ use Rattle.pm_lexer.specs.declared.token.TokenKind.TheVariants as token_kind
 use Rattle.pm_lexer.specs.declared.symbol.Symbol.TheVariants as symbol
 use Rattle.pm_lexer.specs.Symbol.{is}
 use Rattle.pm_lexer.specs.Pieces.{content_of}
-use Rattle.pm_lexer.specs.Language.{Lang, Is, IsMore, IsFurther, never}
+use Rattle.pm_grammar.specs.Language.{Lang, Is, IsMore, IsFurther, never}
 use Rattle.pm_values.specs.declared.value.Kind.{Kind}
 use Rattle.pm_values.specs.declared.value.Kind.TheVariants as kind
 use Rattle.pm_values.specs.Table.{IsScale}

@@ -3,7 +3,7 @@ use Rattle.std.proofs.Common.{◌≡◌, ◌+◌, ℕ, zero, suc, true, false, L
 use Rattle.pm_lexer.specs.declared.token.Token.{Token}
 use Rattle.pm_lexer.specs.declared.symbol.Symbol.TheVariants as symbol
 use Rattle.pm_lexer.specs.Symbol.{is}
-use Rattle.pm_lexer.specs.Reading.{Stop, expected, too_many, ◌>>=◌, sees}
+use Rattle.pm_grammar.specs.Reading.{Stop, expected, too_many, ◌>>=◌, sees}
 use Rattle.pm_schema.specs.declared.fault.ReadBad.{ReadBad}
 use Rattle.pm_schema.specs.declared.fault.ReadBad.TheVariants as bad
 use Rattle.pm_schema.specs.declared.tree.Terminal.TheVariants as terminal

@@ -4,13 +4,13 @@ use Rattle.pm_lexer.specs.declared.token.Token.{Token}
 use Rattle.pm_lexer.specs.declared.symbol.Symbol.TheVariants as symbol
 use Rattle.pm_lexer.specs.Symbol.{is, same_symbol}
 use Rattle.pm_lexer.specs.Pieces.{content_of}
-use Rattle.pm_lexer.specs.Language.{Is}
-use Rattle.pm_lexer.specs.Reading.{◌>>=◌, token_at}
-use Rattle.pm_lexer.proofs.Phrases.{Phrase, Law, Reader, Able, Nothing}
-use Rattle.pm_lexer.proofs.Readers.{Then, pure_reader, then_reader, then_law, then_began, token_reader, not_seen}
-use Rattle.pm_lexer.proofs.Lists.{Further, further_able}
-use Rattle.pm_lexer.proofs.Firsts.{not_both, first_peek}
-use Rattle.pm_lexer.proofs.Repeats.{Empty, repeat_law}
+use Rattle.pm_grammar.specs.Language.{Is}
+use Rattle.pm_grammar.specs.Reading.{◌>>=◌, token_at}
+use Rattle.pm_grammar.proofs.Phrases.{Phrase, Law, Reader, Able, Nothing}
+use Rattle.pm_grammar.proofs.Readers.{Then, pure_reader, then_reader, then_law, then_began, token_reader, not_seen}
+use Rattle.pm_grammar.proofs.Lists.{Further, further_able}
+use Rattle.pm_grammar.proofs.Firsts.{not_both, first_peek}
+use Rattle.pm_grammar.proofs.Repeats.{Empty, repeat_law}
 use Rattle.pm_schema.specs.declared.tree.Word.TheVariants as word
 use Rattle.pm_schema.specs.declared.tree.Terminal.TheVariants as terminal
 use Rattle.pm_schema.specs.declared.tree.PlacedName.{PlacedName}

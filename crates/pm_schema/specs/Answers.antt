@@ -1,8 +1,8 @@
 -- When tokens declare tables, and when they are refused by the grammar.
 use Rattle.std.specs.Prelude.{ℕ, List}
 use Rattle.pm_lexer.specs.declared.token.Token.{Token}
-use Rattle.pm_lexer.specs.Language.{Phrase}
-use Rattle.pm_lexer.specs.Answers.{nowhere, IsWhole, ExpectedIn, TooManyIn}
+use Rattle.pm_grammar.specs.Language.{Phrase}
+use Rattle.pm_grammar.specs.Answers.{nowhere, IsWhole, ExpectedIn, TooManyIn}
 use Rattle.pm_schema.specs.declared.tree.TableText.{TableText}
 use Rattle.pm_schema.specs.Terminals.{keyed}
 use Rattle.pm_schema.specs.Grammar.{IsSchema}

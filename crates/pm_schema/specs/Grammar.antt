@@ -5,7 +5,7 @@ use Rattle.pm_lexer.specs.declared.token.Token.{Token}
 use Rattle.pm_lexer.specs.declared.symbol.Symbol.TheVariants as symbol
 use Rattle.pm_lexer.specs.Pieces.{content_of}
 use Rattle.pm_lexer.specs.Symbol.{is}
-use Rattle.pm_lexer.specs.Language.{Lang, Gate, Is, IsFurther, IsList}
+use Rattle.pm_grammar.specs.Language.{Lang, Gate, Is, IsFurther, IsList}
 use Rattle.pm_values.specs.declared.value.Kind.{Kind}
 use Rattle.pm_values.specs.declared.value.Kind.TheVariants as kind
 use Rattle.pm_schema.specs.declared.tree.Word.TheVariants as word

@@ -4,7 +4,7 @@ use Rattle.pm_lexer.specs.declared.token.Token.{Token}
 use Rattle.pm_lexer.specs.declared.symbol.Symbol.TheVariants as symbol
 use Rattle.pm_lexer.specs.Symbol.{is}
 use Rattle.pm_lexer.specs.Pieces.{content_of}
-use Rattle.pm_lexer.specs.Reading.{Stop, expected, too_many, Read, ◌>>=◌, sees, token_at, entry_at, more_at, list_at}
+use Rattle.pm_grammar.specs.Reading.{Stop, expected, too_many, Read, ◌>>=◌, sees, token_at, entry_at, more_at, list_at}
 use Rattle.pm_values.specs.declared.value.Kind.{Kind}
 use Rattle.pm_values.specs.declared.value.Kind.TheVariants as kind
 use Rattle.pm_schema.specs.declared.fault.ReadBad.{ReadBad}

@@ -7,7 +7,7 @@ use Rattle.pm_lexer.specs.declared.token.TokenKind.TheVariants as kind
 use Rattle.pm_lexer.specs.declared.symbol.Symbol.TheVariants as symbol
 use Rattle.pm_lexer.specs.Symbol.{is}
 use Rattle.pm_lexer.specs.Pieces.{content_of}
-use Rattle.pm_lexer.specs.Reading.{sees}
+use Rattle.pm_grammar.specs.Reading.{sees}
 use Rattle.pm_schema.specs.declared.tree.PlacedName.{PlacedName}
 use Rattle.pm_schema.specs.declared.tree.Word.{Word}
 use Rattle.pm_schema.specs.declared.tree.Word.TheVariants as word

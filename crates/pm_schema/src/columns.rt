@@ -1,7 +1,7 @@
 ghost use Rattle.std.specs.Prelude.{◌≡◌, length, nat_le};
 ghost use Rattle.pm_lexer.specs.declared.symbol.Symbol.TheVariants as symbol;
 ghost use Rattle.pm_lexer.specs.Symbol.{is};
-ghost use Rattle.pm_lexer.specs.Reading.{token_at, entry_at, more_at, list_at};
+ghost use Rattle.pm_grammar.specs.Reading.{token_at, entry_at, more_at, list_at};
 ghost use Rattle.pm_schema.specs.declared.tree.Terminal.TheVariants as terminal;
 ghost use Rattle.pm_schema.specs.Terminals.{stands, scale_of};
 ghost use Rattle.pm_schema.specs.Reading.{Gives, name_at, num_at, kind_at, nullable_at, column_at, names_at, some_names_at, order_at, keys_at, orders_at, plain_body, further_at, body_at};
@@ -121,7 +121,7 @@ fn more_names(
 }
 
 // name { "," name }
-#[tactic(auto, unfolding(pm_lexer::specs::Reading::list_at))]
+#[tactic(auto, unfolding(pm_grammar::specs::Reading::list_at))]
 fn name_list(alloc: Global, tokens: &[Token]) -> Result<(PlacedNames, &[Token]), ReadBad>
     ensures { Gives (λ x. (x.0, x.1.now)) result (list_at (is symbol.Comma) (token_at (stands terminal.Name)) name_at 8 tokens.now) }
 {

@@ -1,4 +1,4 @@
-ghost use Rattle.pm_lexer.specs.Reading.{whole};
+ghost use Rattle.pm_grammar.specs.Reading.{whole};
 ghost use Rattle.pm_schema.specs.Terminals.{keyed};
 ghost use Rattle.pm_schema.specs.Reading.{Gives, schema_at};
 

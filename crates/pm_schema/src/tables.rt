@@ -1,5 +1,5 @@
 ghost use Rattle.std.specs.Prelude.{◌≡◌, length, nat_le};
-ghost use Rattle.pm_lexer.specs.Reading.{token_at, entry_at, whole};
+ghost use Rattle.pm_grammar.specs.Reading.{token_at, entry_at, whole};
 ghost use Rattle.pm_schema.specs.declared.tree.Terminal.TheVariants as terminal;
 ghost use Rattle.pm_schema.specs.declared.tree.Word.TheVariants as word;
 ghost use Rattle.pm_schema.specs.Terminals.{stands};

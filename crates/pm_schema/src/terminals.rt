@@ -1,7 +1,7 @@
 ghost use Rattle.std.specs.Prelude.{◌≡◌, true, false, drop, codes, MatchOption, IfOk, IfErr};
 ghost use Rattle.std.specs.Str.{str_eq_ignore_ascii_case};
 ghost use Rattle.pm_lexer.specs.Symbol.{is};
-ghost use Rattle.pm_lexer.specs.Reading.{sees, token_at, place_of};
+ghost use Rattle.pm_grammar.specs.Reading.{sees, token_at, place_of};
 ghost use Rattle.pm_schema.specs.declared.fault.ReadBad.TheVariants as bad;
 ghost use Rattle.pm_schema.specs.Terminals.{named, stands, word_of, word_named, is_key, is_found, spells_scale, is_scale_digit};
 ghost use Rattle.pm_schema.specs.Reading.{Gives, name_at};

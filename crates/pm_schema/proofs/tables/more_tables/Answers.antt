@@ -1,7 +1,7 @@
 use Rattle.std.proofs.Common.{rules, arith, ◌+◌, ◌-◌, length, sym, ◌∙◌, refl}
 use Rattle.std.proofs.lemmas.Result.{err_from_is_err_and}
-use Rattle.pm_lexer.specs.Reading.{token_at}
-use Rattle.pm_lexer.proofs.Turns.{more_ends, more_stops, more_took, more_fails}
+use Rattle.pm_grammar.specs.Reading.{token_at}
+use Rattle.pm_grammar.proofs.Turns.{more_ends, more_stops, more_took, more_fails}
 use Rattle.pm_schema.specs.declared.tree.Terminal.TheVariants as terminal
 use Rattle.pm_schema.specs.declared.tree.Word.TheVariants as word
 use Rattle.pm_schema.specs.Terminals.{stands}

@@ -6,7 +6,7 @@ use Rattle.pm_lexer.specs.Pieces.{quotation, single_quotes}
 use Rattle.pm_lexer.specs.Head.{head_of, number_at, named_at, sign_at}
 use Rattle.pm_lexer.specs.Head.{name_at as word_at}
 use Rattle.pm_lexer.specs.Tokens.{tokens_of, tokens_behind}
-use Rattle.pm_lexer.specs.Reading.{list_at, more_at}
+use Rattle.pm_grammar.specs.Reading.{list_at, more_at}
 use Rattle.pm_schema.specs.declared.fault.SchemaBad.TheVariants as bad
 use Rattle.pm_schema.specs.Terminals.{keyed, word_named}
 use Rattle.pm_schema.specs.Rules.{has, is_nullable, breaches_from, all_table_breaches}

@@ -5,12 +5,12 @@ use Rattle.pm_lexer.specs.contracts.symbol.Symbol.{the_type}
 use Rattle.pm_lexer.specs.declared.token.Token.{Token}
 use Rattle.pm_lexer.specs.declared.symbol.Symbol.{Symbol}
 use Rattle.pm_lexer.specs.Symbol.{symbol_of, same_symbol, is}
-use Rattle.pm_lexer.specs.Language.{Gate, Is}
-use Rattle.pm_lexer.specs.Reading.{Read, sees, token_at}
-use Rattle.pm_lexer.proofs.Phrases.{Phrase, Next, Law, Able, Nothing, NotOther, open_behind}
-use Rattle.pm_lexer.proofs.Readers.{Then, then_law, then_began, token_able, not_seen}
-use Rattle.pm_lexer.proofs.Lists.{Peek}
-use Rattle.pm_lexer.proofs.Furthers.{token_peek}
+use Rattle.pm_grammar.specs.Language.{Gate, Is}
+use Rattle.pm_grammar.specs.Reading.{Read, sees, token_at}
+use Rattle.pm_grammar.proofs.Phrases.{Phrase, Next, Law, Able, Nothing, NotOther, open_behind}
+use Rattle.pm_grammar.proofs.Readers.{Then, then_law, then_began, token_able, not_seen}
+use Rattle.pm_grammar.proofs.Lists.{Peek}
+use Rattle.pm_grammar.proofs.Furthers.{token_peek}
 
 -- no token is two symbols
 pub not_both : (a b : Symbol) (t : Token) → same_symbol a b ≡ false → is a t ≡ true → is b t ≡ true → ⊥

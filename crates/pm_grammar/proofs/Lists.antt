@@ -1,10 +1,10 @@
 -- Readers of lists, and of choices by the first token.
 use Rattle.std.proofs.Common.{◌≡◌, ◌≤◌, ◌<◌, ◌+◌, ℕ, zero, suc, List, [], ◌∷◌, ◌++◌, length, Ok, Err, refl, inl, inr, arith, append_assoc}
 use Rattle.pm_lexer.specs.declared.token.Token.{Token}
-use Rattle.pm_lexer.specs.Language.{Gate, Within, IsMore, IsFurther}
-use Rattle.pm_lexer.specs.Reading.{Stop, too_many, Read, ◌>>=◌, place_of}
-use Rattle.pm_lexer.proofs.Phrases.{Phrase, Next, Avoids, Heads, heads_under, Took, Able, Began, GoesOn, longer, Fault, Taken, Law, Open, open_behind, weaker_began, moved, fault_moved}
-use Rattle.pm_lexer.proofs.Readers.{Clear, Or, Same}
+use Rattle.pm_grammar.specs.Language.{Gate, Within, IsMore, IsFurther}
+use Rattle.pm_grammar.specs.Reading.{Stop, too_many, Read, ◌>>=◌, place_of}
+use Rattle.pm_grammar.proofs.Phrases.{Phrase, Next, Avoids, Heads, heads_under, Took, Able, Began, GoesOn, longer, Fault, Taken, Law, Open, open_behind, weaker_began, moved, fault_moved}
+use Rattle.pm_grammar.proofs.Readers.{Clear, Or, Same}
 
 -- A phrase, and then one of several languages, which is chosen before the phrase.
 abbrev pub Some : {A B I : Type 0} → (I → A → Phrase B) → A → Phrase B

@@ -1,8 +1,8 @@
 -- What tokens call for: that they are a phrase, or why they are none.
 use Rattle.std.specs.Prelude.{◌≡◌, ◌≤◌, ℕ, List, [], ◌∷◌, ◌++◌, Result, Ok, Err, length}
 use Rattle.pm_lexer.specs.declared.token.Token.{Token}
-use Rattle.pm_lexer.specs.Language.{Gate, never, always, Phrase}
-use Rattle.pm_lexer.specs.Reading.{Stop, expected, too_deep, too_many, place_of}
+use Rattle.pm_grammar.specs.Language.{Gate, never, always, Phrase}
+use Rattle.pm_grammar.specs.Reading.{Stop, expected, too_deep, too_many, place_of}
 
 -- where an entry past the limit of its list may begin: nowhere, in these last tokens, or anywhere
 pub data Past : Type 0 where

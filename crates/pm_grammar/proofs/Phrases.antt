@@ -1,10 +1,10 @@
 -- What tokens are to a language: a phrase, the beginning of one, or where none goes on.
 use Rattle.std.proofs.Common.{◌≡◌, ◌≤◌, ℕ, List, [], ◌∷◌, ◌++◌, length, Ok, Err, refl, arith, length-append}
 use Rattle.pm_lexer.specs.declared.token.Token.{Token}
-use Rattle.pm_lexer.specs.Language.{Gate}
-pub use Rattle.pm_lexer.specs.Language.{Phrase}
-use Rattle.pm_lexer.specs.Reading.{Stop, expected, too_deep, too_many, Read, place_of}
-use Rattle.pm_lexer.specs.Answers.{BeginsLike}
+use Rattle.pm_grammar.specs.Language.{Gate}
+pub use Rattle.pm_grammar.specs.Language.{Phrase}
+use Rattle.pm_grammar.specs.Reading.{Stop, expected, too_deep, too_many, Read, place_of}
+use Rattle.pm_grammar.specs.Answers.{BeginsLike}
 
 abbrev pub Next : Type 0 → Type 1
 Next A = A → List Token → Type 0

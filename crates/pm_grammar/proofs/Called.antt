@@ -1,9 +1,9 @@
 -- What a right reading answers is what the tokens call for.
 use Rattle.std.proofs.Common.{◌≡◌, ◌≤◌, ℕ, List, [], ◌∷◌, ◌++◌, length, Ok, Err, refl, arith, append-nil}
 use Rattle.pm_lexer.specs.declared.token.Token.{Token}
-use Rattle.pm_lexer.specs.Reading.{Stop, Read, place_of, whole}
-use Rattle.pm_lexer.specs.Answers.{Past, nowhere, within, anywhere, gate_of, Begins, BeginsLike, CallsFor}
-use Rattle.pm_lexer.proofs.Phrases.{Phrase, Next, Avoids, Heads, Began, Cause, no_phrase, deeper, longer, stop_at, Where, Goes, Taken, Faulted, Law, Nothing}
+use Rattle.pm_grammar.specs.Reading.{Stop, Read, place_of, whole}
+use Rattle.pm_grammar.specs.Answers.{Past, nowhere, within, anywhere, gate_of, Begins, BeginsLike, CallsFor}
+use Rattle.pm_grammar.proofs.Phrases.{Phrase, Next, Avoids, Heads, Began, Cause, no_phrase, deeper, longer, stop_at, Where, Goes, Taken, Faulted, Law, Nothing}
 
 abbrev pub Ends : {A : Type 0} → A → Next A
 Ends a found rest = (found ≡ a) × (rest ≡ [])

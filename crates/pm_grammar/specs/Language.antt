@@ -1,6 +1,6 @@
 -- Languages of token lists. A language says of a list of tokens that it begins with a phrase of it, and that the phrase's value and
 -- the tokens behind it are as asked.
-use Rattle.std.specs.Prelude.{◌≡◌, ◌≤◌, ℕ, zero, suc, Bool, true, List, [], ◌∷◌, ◌++◌, length}
+use Rattle.std.specs.Prelude.{◌≡◌, ◌≤◌, ◌⊎◌, ℕ, zero, suc, Bool, true, Option, Some, None, List, [], ◌∷◌, ◌++◌, length}
 use Rattle.pm_lexer.specs.declared.token.Token.{Token}
 
 abbrev pub Lang : Type 0 → Type 1
@@ -43,3 +43,7 @@ IsFurther gate limit Sep P before next ts = (n : ℕ) × IsMore gate limit Sep P
 -- one or more entries with separators between, at most so many but where the gate is open
 abbrev pub IsList : {A : Type 0} → Gate → ℕ → Lang A → (Token → Bool) → Lang (List A)
 IsList gate limit P sep next = P (λ a. IsFurther gate limit (Is sep) (λ _. P) (a ∷ []) next)
+
+-- a token that may stand
+abbrev pub IsOptional : (Token → Bool) → Lang (Option Token)
+IsOptional test next ts = next None ts ⊎ Is test (λ t. next (Some t)) ts

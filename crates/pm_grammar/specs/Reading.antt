@@ -1,6 +1,8 @@
 -- What a reader answers, token by token.
-use Rattle.std.specs.Prelude.{ℕ, zero, suc, Bool, false, if◌then◌else◌, List, [], ◌∷◌, ◌++◌, Result, Ok, Err, length, nat_le}
+use Rattle.std.specs.Prelude.{ℕ, zero, suc, Bool, false, if◌then◌else◌, List, [], ◌∷◌, ◌++◌, Option, Some, None, Result, Ok, Err, length, nat_le}
 use Rattle.pm_lexer.specs.declared.token.Token.{Token}
+use Rattle.pm_lexer.specs.Pieces.{content_of}
+use Rattle.pm_grammar.specs.declared.names.PlacedName.{PlacedName}
 
 -- why reading stops, and at which place: no phrase begins like this, or only a deeper one, or only one with a longer list
 pub data Stop : Type 0 where
@@ -51,3 +53,15 @@ abbrev pub whole : {A : Type 0} → Read A → Result A Stop
 whole (Ok (a, [])) = Ok a
 whole (Ok (a, t ∷ ts)) = Err (expected t.at)
 whole (Err e) = Err e
+
+-- a token that may stand
+abbrev pub optional_at : (Token → Bool) → List Token → Option Token × List Token
+optional_at test [] = (None, [])
+optional_at test (t ∷ ts) = if test t then (Some t, ts) else (None, t ∷ ts)
+
+-- a name with its place
+abbrev pub named : Token → PlacedName
+named token = record { text = content_of token; at = token.at }
+
+unfoldable pub name_at : (Token → Bool) → List Token → Read PlacedName
+name_at test ts = token_at test ts >>= λ name. Ok (named name.0, name.1)

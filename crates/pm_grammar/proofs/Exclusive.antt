@@ -1,10 +1,10 @@
 -- Tokens call for one answer at most.
 use Rattle.std.proofs.Common.{◌≡◌, ◌≤◌, ◌⊎◌, ℕ, List, [], ◌∷◌, ◌++◌, length, Result, Ok, Err, refl, sym, ◌∙◌, ap, inl, inr, arith, append_assoc, length-append}
 use Rattle.pm_lexer.specs.declared.token.Token.{Token}
-use Rattle.pm_lexer.specs.Reading.{Stop, expected, too_deep, too_many, Read}
-use Rattle.pm_lexer.specs.Answers.{Past, nowhere, within, gate_of, IsWhole, Begins, ExpectedIn, TooDeepIn, TooManyIn, CallsFor}
-use Rattle.pm_lexer.proofs.Phrases.{Phrase, heads_same, Law, Nothing}
-use Rattle.pm_lexer.proofs.Called.{Ends, free, law_calls}
+use Rattle.pm_grammar.specs.Reading.{Stop, expected, too_deep, too_many, Read}
+use Rattle.pm_grammar.specs.Answers.{Past, nowhere, within, gate_of, IsWhole, Begins, ExpectedIn, TooDeepIn, TooManyIn, CallsFor}
+use Rattle.pm_grammar.proofs.Phrases.{Phrase, heads_same, Law, Nothing}
+use Rattle.pm_grammar.proofs.Called.{Ends, free, law_calls}
 
 -- What refusals have in common: a phrase begins with the tokens before the place, and none with the one there too.
 record Stands {A : Type 0} (P : Phrase A) (d : ℕ) (tokens front rest : List Token) : Type 0 where

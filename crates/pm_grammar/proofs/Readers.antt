@@ -1,9 +1,9 @@
 -- Readers made of readers.
 use Rattle.std.proofs.Common.{◌≡◌, ◌≤◌, ◌+◌, ◌⊎◌, ℕ, zero, suc, Bool, true, false, List, [], ◌∷◌, ◌++◌, Ok, Err, refl, inl, inr, arith, append_assoc, if◌then◌else◌}
 use Rattle.pm_lexer.specs.declared.token.Token.{Token}
-use Rattle.pm_lexer.specs.Language.{Gate, Is}
-use Rattle.pm_lexer.specs.Reading.{expected, Read, ◌>>=◌, place_of, sees, token_at}
-use Rattle.pm_lexer.proofs.Phrases.{Phrase, Next, Avoids, Heads, heads_under, Took, Able, Began, Cause, no_phrase, deeper, longer, Where, Fault, Taken, Law, Reader, Nothing, NotOther, Open, open_behind, weaker_began, fault_moved}
+use Rattle.pm_grammar.specs.Language.{Gate, Is}
+use Rattle.pm_grammar.specs.Reading.{expected, Read, ◌>>=◌, place_of, sees, token_at}
+use Rattle.pm_grammar.proofs.Phrases.{Phrase, Next, Avoids, Heads, heads_under, Took, Able, Began, Cause, no_phrase, deeper, longer, Where, Fault, Taken, Law, Reader, Nothing, NotOther, Open, open_behind, weaker_began, fault_moved}
 
 -- nothing, with a value
 pub pure_reader : {A : Type 0} (S : Token → Type 0) (d : ℕ) (a : A) → Reader S (λ _ _ next. next a) d (λ r. Ok (a, r))

@@ -1,7 +1,7 @@
 -- One turn of the reading of a list.
 use Rattle.std.proofs.Common.{◌≡◌, ◌+◌, ℕ, zero, suc, Bool, true, false, List, [], ◌∷◌, ◌++◌, drop, length, Ok, Err, refl, arith, nat_le}
 use Rattle.pm_lexer.specs.declared.token.Token.{Token}
-use Rattle.pm_lexer.specs.Reading.{Stop, Read, ◌>>=◌, sees, token_at, entry_at, more_at}
+use Rattle.pm_grammar.specs.Reading.{Stop, Read, ◌>>=◌, sees, token_at, entry_at, more_at}
 
 -- no turn is left
 pub more_ends : {A S : Type 0} (starts : Token → Bool) (sep : List Token → Read S) (peek : List Token → Read Token) (p : S → List Token → Read A) (limit n : ℕ) (before : List A) (ts : List Token)
