@@ -4,3 +4,5 @@ pub mod Pieces
 pub mod Symbol
 pub mod Quoting
 pub mod Tokens
+pub mod Words
+pub mod Parts
