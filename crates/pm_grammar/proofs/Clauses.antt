@@ -4,7 +4,7 @@ use Rattle.pm_lexer.specs.declared.token.Token.{Token}
 use Rattle.pm_grammar.specs.Language.{Gate, Is, IsMore, IsClause}
 use Rattle.pm_grammar.specs.Reading.{too_many, Read, ◌>>=◌, place_of, sees, limited_at, more_while, clause_at}
 use Rattle.pm_grammar.proofs.Phrases.{Phrase, Next, Avoids, Able, Began, Law, Reader, Nothing, longer}
-use Rattle.pm_grammar.proofs.Readers.{Then, Or, Same, same_law, first_law, second_law, same_reader, then_reader, then_began, first_began, pure_reader, map_reader, not_seen}
+use Rattle.pm_grammar.proofs.Readers.{Then, Or, Same, same_law, first_law, second_law, same_reader, then_law, then_reader, then_began, first_began, pure_reader, map_reader, not_seen}
 use Rattle.pm_grammar.proofs.Lists.{Further, More, Entry, further_able, entry_began, ThenSome, some_law}
 use Rattle.pm_grammar.proofs.Lists.{Some as SomeOf}
 use Rattle.pm_grammar.proofs.Furthers.{behind_reader, optional_reader, seen_head, past, not_past, no_longer}
@@ -187,11 +187,11 @@ past_entry S SP sep starts F P Q limit d p q k before s le (t ∷ us) e = record
   };
 }
 
-listed_able : {A B : Type 0} (limit : ℕ) (sep : Token → Bool) (P : Phrase A) (Q : List A → Phrase B) (before : List A) (d : ℕ) → ((l : List A) → Able (Q l) d) → Able (Listed limit sep P Q before) d
+pub listed_able : {A B : Type 0} (limit : ℕ) (sep : Token → Bool) (P : Phrase A) (Q : List A → Phrase B) (before : List A) (d : ℕ) → ((l : List A) → Able (Q l) d) → Able (Listed limit sep P Q before) d
 listed_able limit sep P Q before d able = then_began able (further_able limit (Sep sep) (λ _. P) before d)
 
 -- no token that may not follow an entry begins what follows it
-listed_clear : {A B : Type 0} (S SP : Token → Type 0) (sep starts : Token → Bool) (F : Token → Type 0) (P : Phrase A) (Q : List A → Phrase B) (limit d : ℕ) (p : List Token → Read A) (q : List A × List Token → Read B)
+pub listed_clear : {A B : Type 0} (S SP : Token → Type 0) (sep starts : Token → Bool) (F : Token → Type 0) (P : Phrase A) (Q : List A → Phrase B) (limit d : ℕ) (p : List Token → Read A) (q : List A × List Token → Read B)
     → Entries S SP sep starts F P Q d p q → (before : List A) (n : ℕ) (a : A) (d' : ℕ) (g : Gate) (next : Next B) → Avoids S next → (t : Token) (ts : List Token) → SP t → MoreThen limit sep P Q before n a d' g next (t ∷ ts) → ⊥
 unfolding IsMore
 listed_clear S SP sep starts F P Q limit d p q k before zero a d' g next avoids t ts s h =
@@ -271,3 +271,14 @@ listed_law {A} {B} S SP sep starts F P Q limit d p q k (suc m) before (t ∷ us)
       | false ↦ λ e. same_law S _ _ d (t ∷ us) (Ok (tail.value, t ∷ us)) split
           (first_law S (Only tail.value) (Then (Sep sep) (λ _. Behind)) d (t ∷ us) (Ok (tail.value, t ∷ us)) (λ d' g next w avoids heads h. not_seen sep (t ∷ us) w _ e heads h) ((pure_reader S d tail.value).law (t ∷ us)))
     ] refl)
+
+-- the list from its first entry, which may have a form of its own
+pub listed_reader : {A B : Type 0} (S SP : Token → Type 0) (sep starts : Token → Bool) (F : Token → Type 0) (P₀ P : Phrase A) (Q : List A → Phrase B) (limit d : ℕ) (p₀ p : List Token → Read A) (q : List A × List Token → Read B)
+    → Reader SP P₀ d p₀ → Entries S SP sep starts F P Q d p q
+    → Reader S (Then P₀ (λ a. Listed limit sep P Q (a ∷ []))) d (λ ts. p₀ ts >>= λ a. more_while sep starts p limit (length a.1) (a.0 ∷ []) a.1 >>= q)
+listed_reader {A} {B} S SP sep starts F P₀ P Q limit d p₀ p q first k = record {
+  law = λ ts. then_law S SP P₀ (λ a. Listed limit sep P Q (a ∷ [])) d ts (p₀ ts) (λ a. more_while sep starts p limit (length a.1) (a.0 ∷ []) a.1 >>= q) (first.law ts)
+      (λ a r e. listed_law S SP sep starts F P Q limit d p q k (length r) (a ∷ []) r (omega arith)) (λ a. listed_able limit sep P Q (a ∷ []) d k.able)
+      (λ a d' g next avoids t ts s h. listed_clear S SP sep starts F P Q limit d p q k [] h.0 a d' g next avoids t ts s h.1);
+  able = then_began {Q = λ a. Listed limit sep P Q (a ∷ [])} (λ a. listed_able limit sep P Q (a ∷ []) d k.able) first.able;
+}
