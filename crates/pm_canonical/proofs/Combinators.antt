@@ -5,7 +5,7 @@ use Rattle.std.proofs.lemmas.List.{map-append, append-nil}
 use Rattle.pm_lexer.specs.declared.token.Token.{Token}
 use Rattle.pm_lexer.specs.declared.symbol.Symbol.{Symbol}
 use Rattle.pm_lexer.specs.Symbol.{symbol_of, symbol_at, same_symbol, is}
-use Rattle.pm_lexer.specs.Language.{Lang, Is, never, IsMore, IsFurther, IsList}
+use Rattle.pm_grammar.specs.Language.{Lang, Is, never, IsMore, IsFurther, IsList}
 use Rattle.pm_canonical.proofs.Shapes.{Shape, shape_of, between}
 use Rattle.pm_canonical.proofs.Valid.{Every}
 

@@ -3,7 +3,7 @@ use Rattle.std.proofs.Common.{◌≡◌, ◌⊎◌, ℕ, Bool, true, false, List
 use Rattle.pm_lexer.specs.declared.token.Token.{Token}
 use Rattle.pm_lexer.specs.declared.symbol.Symbol.TheVariants as symbol
 use Rattle.pm_lexer.specs.Symbol.{is, symbol_of, symbol_at, canonical_sign}
-use Rattle.pm_lexer.specs.Language.{Lang, Is, IsList, never}
+use Rattle.pm_grammar.specs.Language.{Lang, Is, IsList, never}
 use Rattle.pm_syntax.specs.declared.tree.Literal.{Literal}
 use Rattle.pm_syntax.specs.declared.tree.Atom.{Atom}
 use Rattle.pm_values.specs.declared.condition.Comparison.{Comparison}

@@ -5,7 +5,7 @@ use Rattle.pm_lexer.specs.declared.token.TokenKind.TheVariants as kind
 use Rattle.pm_lexer.specs.declared.symbol.Symbol.TheVariants as symbol
 use Rattle.pm_lexer.specs.Symbol.{is, same_symbol}
 use Rattle.pm_lexer.specs.Pieces.{content_at}
-use Rattle.pm_lexer.specs.Language.{Is}
+use Rattle.pm_grammar.specs.Language.{Is}
 use Rattle.pm_syntax.specs.declared.tree.PlacedName.{PlacedName}
 use Rattle.pm_syntax.specs.declared.tree.ColumnName.{ColumnName}
 use Rattle.pm_syntax.specs.declared.tree.Func.{Func}

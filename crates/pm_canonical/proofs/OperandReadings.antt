@@ -6,7 +6,7 @@ use Rattle.pm_lexer.specs.declared.token.TokenKind.TheVariants as kind
 use Rattle.pm_lexer.specs.declared.symbol.Symbol.TheVariants as symbol
 use Rattle.pm_lexer.specs.Symbol.{is, same_symbol}
 use Rattle.pm_lexer.specs.Pieces.{content_of, content_at, decimals_len}
-use Rattle.pm_lexer.specs.Language.{Lang, Is}
+use Rattle.pm_grammar.specs.Language.{Lang, Is}
 use Rattle.pm_syntax.specs.declared.tree.Expr.{Expr}
 use Rattle.pm_syntax.specs.declared.tree.Expr.TheVariants as expr
 use Rattle.pm_syntax.specs.declared.tree.Literal.{Literal}

@@ -4,7 +4,7 @@ use Rattle.std.proofs.lemmas.List.{append_assoc, append-nil}
 use Rattle.pm_lexer.specs.declared.token.Token.{Token}
 use Rattle.pm_lexer.specs.declared.symbol.Symbol.TheVariants as symbol
 use Rattle.pm_lexer.specs.Symbol.{is, same_symbol}
-use Rattle.pm_lexer.specs.Language.{Lang, Is, never}
+use Rattle.pm_grammar.specs.Language.{Lang, Is, never}
 use Rattle.pm_syntax.specs.declared.tree.ColumnName.{ColumnName}
 use Rattle.pm_syntax.specs.declared.tree.Items.{Items}
 use Rattle.pm_syntax.specs.declared.tree.Source.{Source}

@@ -2,7 +2,7 @@
 use Rattle.std.proofs.Common.{◌≡◌, ◌⊎◌, ◌≤◌, ◌<◌, ℕ, suc, zero, Bool, true, List, [], ◌∷◌, ◌++◌, length, sym, ◌∙◌, ap, inl, inr, arith, length-append}
 use Rattle.std.proofs.lemmas.List.{append_assoc, append-nil}
 use Rattle.pm_lexer.specs.declared.token.Token.{Token}
-use Rattle.pm_lexer.specs.Language.{Lang, Is, never, IsMore, IsFurther, IsList}
+use Rattle.pm_grammar.specs.Language.{Lang, Is, never, IsMore, IsFurther, IsList}
 use Rattle.pm_canonical.proofs.Valid.{Every, ValidList}
 use Rattle.pm_canonical.proofs.Formed.{IsFormed}
 

@@ -4,7 +4,7 @@ use Rattle.pm_lexer.specs.declared.token.Token.{Token}
 use Rattle.pm_lexer.specs.declared.symbol.Symbol.TheVariants as symbol
 use Rattle.pm_lexer.specs.Symbol.{is}
 use Rattle.pm_lexer.specs.Pieces.{content_of, decimals_len}
-use Rattle.pm_lexer.specs.Language.{Is, IsList, never}
+use Rattle.pm_grammar.specs.Language.{Is, IsList, never}
 use Rattle.pm_syntax.specs.declared.tree.Func.TheVariants as func
 use Rattle.pm_syntax.specs.declared.tree.Expr.TheVariants as expr
 use Rattle.pm_syntax.specs.declared.tree.Literal.TheVariants as literal

@@ -5,7 +5,7 @@ use Rattle.pm_lexer.specs.declared.token.Token.{Token}
 use Rattle.pm_lexer.specs.declared.symbol.Symbol.{Symbol}
 use Rattle.pm_lexer.specs.declared.symbol.Symbol.TheVariants as symbol
 use Rattle.pm_lexer.specs.Symbol.{is}
-use Rattle.pm_lexer.specs.Language.{Lang, Is, IsFurther, IsList, never}
+use Rattle.pm_grammar.specs.Language.{Lang, Is, IsFurther, IsList, never}
 use Rattle.pm_syntax.specs.declared.tree.ColumnName.{ColumnName}
 use Rattle.pm_syntax.specs.declared.tree.Items.{Items}
 use Rattle.pm_syntax.specs.declared.tree.Items.TheVariants as items

@@ -2,7 +2,7 @@
 use Rattle.std.proofs.Common.{ℕ, suc, zero, Bool, List, [], ◌∷◌, arith}
 use Rattle.pm_lexer.specs.declared.symbol.Symbol.TheVariants as symbol
 use Rattle.pm_lexer.specs.Symbol.{is}
-use Rattle.pm_lexer.specs.Language.{Is, IsList, never}
+use Rattle.pm_grammar.specs.Language.{Is, IsList, never}
 use Rattle.pm_syntax.specs.declared.tree.Test.{Test}
 use Rattle.pm_syntax.specs.declared.tree.Test.TheVariants as test
 use Rattle.pm_syntax.specs.Grammar.{IsTest, IsPart, IsPartAnd, IsCondition, all_of, any_of}

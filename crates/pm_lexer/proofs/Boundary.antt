@@ -21,23 +21,23 @@ use Rattle.pm_lexer.specs.Head.{name_at, number_at, named_at, closed_name_at, pl
 cut_behind : (text : List ℕ) (n : ℕ) → IsUtf8 text → n < length text → get_or text n 0 < 128 → IsCut text (n + 1)
 cut_behind text n u h a = record { some = omega arith; within = omega arith; boundary = IsCharBoundary-after_ascii text n u h a }
 
-choose : {A : Type 0} (P : A → Type 0) (b : Bool) (x y : A) → (b ≡ true → P x) → (b ≡ false → P y) → P (if b then x else y)
+pub choose : {A : Type 0} (P : A → Type 0) (b : Bool) (x y : A) → (b ≡ true → P x) → (b ≡ false → P y) → P (if b then x else y)
 choose P true x y f g = f refl
 choose P false x y f g = g refl
 
 -- a run of bytes that pass a test
-run_within : (p : ℕ → Bool) (xs : List ℕ) → prefix_len p xs ≤ length xs
+pub run_within : (p : ℕ → Bool) (xs : List ℕ) → prefix_len p xs ≤ length xs
 run_within p [] = omega arith
 run_within p (x ∷ xs) = elim (p x) as (λ b. cond b (1 + prefix_len p xs) 0 ≤ length (x ∷ xs)) [ true ↦ (let ih = run_within p xs in omega arith) | false ↦ omega arith ]
 
-run_passes : (p : ℕ → Bool) (xs : List ℕ) (i : ℕ) → i < prefix_len p xs → p (get_or xs i 0) ≡ true
+pub run_passes : (p : ℕ → Bool) (xs : List ℕ) (i : ℕ) → i < prefix_len p xs → p (get_or xs i 0) ≡ true
 run_passes p [] i h = absurd (omega arith)
 run_passes p (x ∷ xs) zero h =
     elim (p x) as (λ b. zero < cond b (1 + prefix_len p xs) 0 → b ≡ true) [ true ↦ λ _. refl | false ↦ λ h. absurd (omega arith) ] h
 run_passes p (x ∷ xs) (suc i) h =
     run_passes p xs i (elim (p x) as (λ b. suc i < cond b (1 + prefix_len p xs) 0 → i < prefix_len p xs) [ true ↦ λ h. omega arith | false ↦ λ h. absurd (omega arith) ] h)
 
-run_stops : (p : ℕ → Bool) (xs : List ℕ) → prefix_len p xs < length xs → p (get_or xs (prefix_len p xs) 0) ≡ false
+pub run_stops : (p : ℕ → Bool) (xs : List ℕ) → prefix_len p xs < length xs → p (get_or xs (prefix_len p xs) 0) ≡ false
 run_stops p [] h = absurd (omega arith)
 run_stops p (x ∷ xs) h =
     elim (p x) as (λ b. p x ≡ b → cond b (1 + prefix_len p xs) 0 < length (x ∷ xs) → p (get_or (x ∷ xs) (cond b (1 + prefix_len p xs) 0) 0) ≡ false) [
@@ -45,7 +45,7 @@ run_stops p (x ∷ xs) h =
       | false ↦ λ e h. e
     ] refl h
 
-run_some : (p : ℕ → Bool) (x : ℕ) (xs : List ℕ) → p x ≡ true → 0 < prefix_len p (x ∷ xs)
+pub run_some : (p : ℕ → Bool) (x : ℕ) (xs : List ℕ) → p x ≡ true → 0 < prefix_len p (x ∷ xs)
 run_some p x xs e = rw e (omega arith)
 
 -- a cut behind such a run, where only ASCII bytes pass
@@ -67,7 +67,7 @@ word_ascii b e = grind (arith, nat_tests)
 blank_ascii : (b : ℕ) → is_blank b ≡ true → b < 128
 blank_ascii b e = grind (arith, nat_tests)
 
-letter_is_word : (b : ℕ) → is_letter b ≡ true → is_word b ≡ true
+pub letter_is_word : (b : ℕ) → is_letter b ≡ true → is_word b ≡ true
 letter_is_word b e = rw e refl
 
 line_ends : (b : ℕ) → is_inline b ≡ false → b < 128
@@ -115,7 +115,7 @@ decimals_last (b ∷ rest) h =
     last zero some all = absurd (omega arith)
     last (suc n) some all = all n (omega arith)
 
-decimals_shorter : (text : List ℕ) → 0 < decimals text → decimals text < length text
+pub decimals_shorter : (text : List ℕ) → 0 < decimals text → decimals text < length text
 decimals_shorter [] h = absurd (omega arith)
 decimals_shorter (b ∷ rest) h =
     choose (λ n. 0 < n → n < length (b ∷ rest)) (b == 46) (prefix_len is_ascii_digit rest) 0 (λ _ _. let h = run_within is_ascii_digit rest in omega arith) (λ _ none. absurd (omega arith)) h
@@ -153,7 +153,7 @@ two_past : (b c : ℕ) (rest : List ℕ) (m : ℕ) → get_or (b ∷ c ∷ rest)
 two_past b c rest m = let e : 2 + m ≡ suc (suc m) = omega arith in rw e refl
 
 -- the closing quote
-quotation_ends : (q : ℕ) (xs : List ℕ) (n : ℕ) → quotation q xs ≡ Some n → (n < length xs) × (get_or xs n 0 ≡ q)
+pub quotation_ends : (q : ℕ) (xs : List ℕ) (n : ℕ) → quotation q xs ≡ Some n → (n < length xs) × (get_or xs n 0 ≡ q)
 unfolding quotation
 quotation_ends q [] n e = absurd (cc e)
 quotation_ends q (b ∷ []) n e =
@@ -201,19 +201,19 @@ quoted_cuts at b rest u =
       | Some n ↦ λ e. let (within, _) = quotation_ends 34 rest n e in named_cuts at n (b ∷ rest) (take n rest) (omega (arith, length-take n rest)) (cut_quotes 34 b rest n (lit< tt) u e)
     ] refl
 
-first : (a b : Bool) → (a && b) ≡ true → a ≡ true
+pub first : (a b : Bool) → (a && b) ≡ true → a ≡ true
 first true b e = refl
 first false b e = absurd (cc e)
 
-second : (a b : Bool) → (a && b) ≡ true → b ≡ true
+pub second : (a b : Bool) → (a && b) ≡ true → b ≡ true
 second true b e = e
 second false b e = absurd (cc e)
 
-bytes_same : (xs ys : List ℕ) → bytes_eq xs ys ≡ true → xs ≡ ys
+pub bytes_same : (xs ys : List ℕ) → bytes_eq xs ys ≡ true → xs ≡ ys
 bytes_same xs ys e = (bytes_eq-Decides xs ys).0 e
 
 -- what a search finds passes, and has what all have
-found : {A : Type 0} (p q : A → Bool) (xs : List A) → list_all q xs ≡ true → is_some (find p xs) ≡ true → (x : A) × (p x ≡ true) × (q x ≡ true)
+pub found : {A : Type 0} (p q : A → Bool) (xs : List A) → list_all q xs ≡ true → is_some (find p xs) ≡ true → (x : A) × (p x ≡ true) × (q x ≡ true)
 found {A} p q [] all some = absurd (cc some)
 found {A} p q (x ∷ xs) all some =
     elim (p x) as (λ b. p x ≡ b → is_some (cond b (Some x) (find p xs)) ≡ true → (x : A) × (p x ≡ true) × (q x ≡ true)) [

@@ -1,14 +1,8 @@
 pub mod Boundary
 pub mod QuoteEnds
-pub mod Furthers
-pub mod Firsts
-pub mod Lists
-pub mod Phrases
 pub mod Quotation
 pub mod Doubling
-pub mod Readers
 pub mod Walk
-pub mod Repeats
-pub mod Turns
-pub mod Called
-pub mod Exclusive
+pub mod Runs
+pub mod Forms
+pub mod InTurns

@@ -4,6 +4,5 @@ pub mod Pieces
 pub mod Symbol
 pub mod Quoting
 pub mod Tokens
-pub mod Language
-pub mod Reading
-pub mod Answers
+pub mod Words
+pub mod Parts

@@ -1,10 +1,11 @@
 //! Tokens of schema and query texts: `lex` gives the tokens of a text exactly where it has tokens, and else the
 //! refusal with the least place. Beside it stands what a grammar sees of a token, its `Symbol`, and the text that
-//! a quoted token stands for. A theory of readers of token lists is in specs/ and proofs/.
+//! a quoted token stands for.
 #![tactic(auto)]
 
 pub mod fault;
 pub mod head;
+pub mod laws;
 pub mod lexing;
 pub mod quoting;
 pub mod symbol;

@@ -6,12 +6,12 @@ use Rattle.pm_lexer.specs.declared.token.TokenKind.TheVariants as kind
 use Rattle.pm_lexer.specs.declared.symbol.Symbol.TheVariants as symbol
 use Rattle.pm_lexer.specs.Symbol.{symbol_of, symbol_at, same_symbol, is}
 use Rattle.pm_lexer.specs.Pieces.{content_of, decimals_len}
-use Rattle.pm_lexer.specs.Language.{Gate, Is}
-use Rattle.pm_lexer.specs.Reading.{◌>>=◌, sees, token_at}
-use Rattle.pm_lexer.proofs.Phrases.{Phrase, Next, Reader, Nothing, NotOther, Began}
-use Rattle.pm_lexer.proofs.Readers.{Then, Or, Same, pure_reader, then_reader, same_reader, same_began, map_reader}
-use Rattle.pm_lexer.proofs.Firsts.{BeginsWith, bars, not_both}
-use Rattle.pm_lexer.proofs.Furthers.{choice_reader, behind_reader, optional_reader}
+use Rattle.pm_grammar.specs.Language.{Gate, Is}
+use Rattle.pm_grammar.specs.Reading.{◌>>=◌, sees, token_at}
+use Rattle.pm_grammar.proofs.Phrases.{Phrase, Next, Reader, Nothing, NotOther, Began}
+use Rattle.pm_grammar.proofs.Readers.{Then, Or, Same, pure_reader, then_reader, same_reader, same_began, map_reader}
+use Rattle.pm_grammar.proofs.Firsts.{BeginsWith, bars, not_both}
+use Rattle.pm_grammar.proofs.Furthers.{choice_reader, behind_reader, optional_reader}
 use Rattle.pm_syntax.specs.declared.tree.PlacedName.{PlacedName}
 use Rattle.pm_syntax.specs.declared.tree.ColumnName.{ColumnName}
 use Rattle.pm_syntax.specs.declared.tree.Func.TheVariants as func

@@ -1,12 +1,12 @@
 -- More readers: a token that may stand, readings that agree, and what the first token of a phrase says.
 use Rattle.std.proofs.Common.{◌≡◌, ◌+◌, ℕ, Bool, true, false, List, [], ◌∷◌, ◌++◌, Ok, Err, Option, Some, None, refl, inl, inr, if◌then◌else◌, arith}
 use Rattle.pm_lexer.specs.declared.token.Token.{Token}
-use Rattle.pm_lexer.specs.Language.{Is}
-use Rattle.pm_lexer.specs.Reading.{expected, Read, ◌>>=◌, sees, token_at}
-use Rattle.pm_lexer.proofs.Phrases.{Phrase, Reader, Able, Began, open_behind, fault_moved, moved, weaker_began}
-use Rattle.pm_lexer.proofs.Readers.{Then, Clear, Or, Same, pure_reader, then_began, same_reader, same_began, token_reader}
-use Rattle.pm_lexer.proofs.Lists.{Peek}
-use Rattle.pm_lexer.proofs.Furthers.{choice_reader}
+use Rattle.pm_grammar.specs.Language.{Is}
+use Rattle.pm_grammar.specs.Reading.{expected, Read, ◌>>=◌, sees, token_at}
+use Rattle.pm_grammar.proofs.Phrases.{Phrase, Reader, Able, Began, open_behind, fault_moved, moved, weaker_began}
+use Rattle.pm_grammar.proofs.Readers.{Then, Clear, Or, Same, pure_reader, then_began, same_reader, same_began, token_reader}
+use Rattle.pm_grammar.proofs.Lists.{Peek}
+use Rattle.pm_grammar.proofs.Furthers.{choice_reader}
 use Rattle.pm_syntax.specs.Grammar.{IsOptional}
 use Rattle.pm_syntax.specs.Reading.{optional_at}
 use Rattle.pm_syntax.proofs.Sets.{none_stops, none_other, begins_is}

@@ -3,13 +3,13 @@ use Rattle.std.proofs.Common.{◌≡◌, ◌⊎◌, ℕ, zero, suc, Bool, true, 
 use Rattle.pm_lexer.specs.declared.token.Token.{Token}
 use Rattle.pm_lexer.specs.declared.symbol.Symbol.TheVariants as symbol
 use Rattle.pm_lexer.specs.Symbol.{same_symbol, is}
-use Rattle.pm_lexer.specs.Language.{Gate, Is, IsMore, IsFurther, IsList}
-use Rattle.pm_lexer.specs.Reading.{Stop, expected, too_deep, Read, ◌>>=◌, place_of, sees, token_at}
-use Rattle.pm_lexer.proofs.Phrases.{Phrase, Next, Avoids, Reader, Law, NotOther, Able, Began, Fault, GoesOn, deeper}
-use Rattle.pm_lexer.proofs.Readers.{Then, Or, Same, Under, pure_reader, then_reader, then_began, same_reader, same_began, same_law, first_law, map_reader, first_began, second_began, under_reader, under_began, first_fault, not_seen}
-use Rattle.pm_lexer.proofs.Lists.{Peek}
-use Rattle.pm_lexer.proofs.Firsts.{BeginsWith, bars}
-use Rattle.pm_lexer.proofs.Furthers.{behind_reader, list_reader}
+use Rattle.pm_grammar.specs.Language.{Gate, Is, IsMore, IsFurther, IsList}
+use Rattle.pm_grammar.specs.Reading.{Stop, expected, too_deep, Read, ◌>>=◌, place_of, sees, token_at}
+use Rattle.pm_grammar.proofs.Phrases.{Phrase, Next, Avoids, Reader, Law, NotOther, Able, Began, Fault, GoesOn, deeper}
+use Rattle.pm_grammar.proofs.Readers.{Then, Or, Same, Under, pure_reader, then_reader, then_began, same_reader, same_began, same_law, first_law, map_reader, first_began, second_began, under_reader, under_began, first_fault, not_seen}
+use Rattle.pm_grammar.proofs.Lists.{Peek}
+use Rattle.pm_grammar.proofs.Firsts.{BeginsWith, bars}
+use Rattle.pm_grammar.proofs.Furthers.{behind_reader, list_reader}
 use Rattle.pm_syntax.specs.declared.tree.Test.{Test}
 use Rattle.pm_syntax.specs.declared.tree.Test.TheVariants as test
 use Rattle.pm_syntax.specs.Grammar.{all_of, any_of, IsPartAnd, IsCond, IsPart}

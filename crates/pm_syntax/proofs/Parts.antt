@@ -3,7 +3,7 @@ use Rattle.std.proofs.Common.{◌≡◌, ◌<◌, ◌-◌, ℕ, zero, suc, Bool,
 use Rattle.pm_lexer.specs.declared.token.Token.{Token}
 use Rattle.pm_lexer.specs.declared.symbol.Symbol.TheVariants as symbol
 use Rattle.pm_lexer.specs.Symbol.{is}
-use Rattle.pm_lexer.specs.Reading.{too_deep, ◌>>=◌, place_of, sees, token_at}
+use Rattle.pm_grammar.specs.Reading.{too_deep, ◌>>=◌, place_of, sees, token_at}
 use Rattle.pm_syntax.specs.declared.tree.Test.TheVariants as test
 use Rattle.pm_syntax.specs.Reading.{part_at, part_peek, cond_at, test_at, opens, begins_test}
 

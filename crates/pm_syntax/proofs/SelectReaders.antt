@@ -4,13 +4,13 @@ use Rattle.pm_lexer.specs.declared.token.Token.{Token}
 use Rattle.pm_lexer.specs.declared.symbol.Symbol.{Symbol}
 use Rattle.pm_lexer.specs.declared.symbol.Symbol.TheVariants as symbol
 use Rattle.pm_lexer.specs.Symbol.{same_symbol, is}
-use Rattle.pm_lexer.specs.Language.{Gate, Is, IsFurther, IsList}
-use Rattle.pm_lexer.specs.Reading.{Read, ◌>>=◌, token_at, list_at, more_at}
-use Rattle.pm_lexer.proofs.Phrases.{Phrase, Next, Avoids, Reader, Nothing, NotOther, Able, Began}
-use Rattle.pm_lexer.proofs.Readers.{Then, Or, pure_reader, then_law, then_reader, then_began, same_reader, map_reader, wider_reader}
-use Rattle.pm_lexer.proofs.Lists.{Peek, Further, further_able, more_clear}
-use Rattle.pm_lexer.proofs.Firsts.{BeginsWith, bars, not_both}
-use Rattle.pm_lexer.proofs.Furthers.{Parts, further_law, choice_reader, behind_reader, optional_reader, list_reader, token_peek}
+use Rattle.pm_grammar.specs.Language.{Gate, Is, IsFurther, IsList}
+use Rattle.pm_grammar.specs.Reading.{Read, ◌>>=◌, token_at, list_at, more_at}
+use Rattle.pm_grammar.proofs.Phrases.{Phrase, Next, Avoids, Reader, Nothing, NotOther, Able, Began}
+use Rattle.pm_grammar.proofs.Readers.{Then, Or, pure_reader, then_law, then_reader, then_began, same_reader, map_reader, wider_reader}
+use Rattle.pm_grammar.proofs.Lists.{Peek, Further, further_able, more_clear}
+use Rattle.pm_grammar.proofs.Firsts.{BeginsWith, bars, not_both}
+use Rattle.pm_grammar.proofs.Furthers.{Parts, further_law, choice_reader, behind_reader, optional_reader, list_reader, token_peek}
 use Rattle.pm_syntax.specs.declared.tree.PlacedName.{PlacedName}
 use Rattle.pm_syntax.specs.declared.tree.ColumnName.{ColumnName}
 use Rattle.pm_syntax.specs.declared.tree.Expr.{Expr}

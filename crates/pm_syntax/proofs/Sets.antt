@@ -5,10 +5,10 @@ use Rattle.pm_lexer.specs.contracts.symbol.Symbol.{the_type}
 use Rattle.pm_lexer.specs.declared.token.Token.{Token}
 use Rattle.pm_lexer.specs.declared.symbol.Symbol.{Symbol}
 use Rattle.pm_lexer.specs.Symbol.{same_symbol, is}
-use Rattle.pm_lexer.specs.Language.{Is}
-use Rattle.pm_lexer.specs.Reading.{sees}
-use Rattle.pm_lexer.proofs.Phrases.{Phrase, Next, NotOther}
-use Rattle.pm_lexer.proofs.Firsts.{FirstOf, BeginsWith, not_both}
+use Rattle.pm_grammar.specs.Language.{Is}
+use Rattle.pm_grammar.specs.Reading.{sees}
+use Rattle.pm_grammar.proofs.Phrases.{Phrase, Next, NotOther}
+use Rattle.pm_grammar.proofs.Firsts.{FirstOf, BeginsWith, not_both}
 
 -- a token that is one of these symbols
 abbrev pub AnyOf : List Symbol → Token → Type 0

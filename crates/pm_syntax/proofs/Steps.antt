@@ -1,8 +1,8 @@
 -- What stops the reading of a list.
 use Rattle.std.proofs.Common.{◌≡◌, ◌+◌, ℕ, Bool, true, List, [], ◌∷◌, length, Result, Ok, Err, refl}
 use Rattle.pm_lexer.specs.declared.token.Token.{Token}
-use Rattle.pm_lexer.specs.Reading.{Stop, expected, too_deep, too_many, Read, ◌>>=◌, sees, token_at, more_at, list_at}
-use Rattle.pm_lexer.proofs.Turns.{more_goes}
+use Rattle.pm_grammar.specs.Reading.{Stop, expected, too_deep, too_many, Read, ◌>>=◌, sees, token_at, more_at, list_at}
+use Rattle.pm_grammar.proofs.Turns.{more_goes}
 use Rattle.pm_syntax.specs.declared.fault.SynBad.{SynBad}
 use Rattle.pm_syntax.specs.declared.fault.SynBad.TheVariants as bad
 use Rattle.pm_lexer.specs.declared.symbol.Symbol.TheVariants as symbol

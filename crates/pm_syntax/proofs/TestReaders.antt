@@ -5,13 +5,13 @@ use Rattle.pm_lexer.specs.declared.symbol.Symbol.{Symbol}
 use Rattle.pm_lexer.specs.declared.symbol.Symbol.TheVariants as symbol
 use Rattle.pm_lexer.specs.Symbol.{same_symbol, is}
 use Rattle.pm_lexer.specs.Pieces.{content_of, decimals_len}
-use Rattle.pm_lexer.specs.Language.{Gate, Is, IsList}
-use Rattle.pm_lexer.specs.Reading.{◌>>=◌, token_at}
-use Rattle.pm_lexer.proofs.Phrases.{Phrase, Next, Reader, Nothing, Began}
-use Rattle.pm_lexer.proofs.Readers.{Then, Or, pure_reader, then_reader, then_began, same_reader, map_reader, token_reader, first_began, second_began}
-use Rattle.pm_lexer.proofs.Lists.{Peek}
-use Rattle.pm_lexer.proofs.Firsts.{BeginsWith, bars, not_both}
-use Rattle.pm_lexer.proofs.Furthers.{choice_reader, behind_reader, list_reader, token_peek}
+use Rattle.pm_grammar.specs.Language.{Gate, Is, IsList}
+use Rattle.pm_grammar.specs.Reading.{◌>>=◌, token_at}
+use Rattle.pm_grammar.proofs.Phrases.{Phrase, Next, Reader, Nothing, Began}
+use Rattle.pm_grammar.proofs.Readers.{Then, Or, pure_reader, then_reader, then_began, same_reader, map_reader, token_reader, first_began, second_began}
+use Rattle.pm_grammar.proofs.Lists.{Peek}
+use Rattle.pm_grammar.proofs.Firsts.{BeginsWith, bars, not_both}
+use Rattle.pm_grammar.proofs.Furthers.{choice_reader, behind_reader, list_reader, token_peek}
 use Rattle.pm_values.specs.declared.condition.Comparison.TheVariants as comparison
 use Rattle.pm_syntax.specs.declared.tree.Literal.TheVariants as literal
 use Rattle.pm_syntax.specs.declared.tree.Atom.{Atom}

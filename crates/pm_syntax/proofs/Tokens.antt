@@ -8,10 +8,10 @@ use Rattle.pm_lexer.specs.declared.symbol.Symbol.{Symbol}
 use Rattle.pm_lexer.specs.declared.symbol.Symbol.TheVariants as symbol
 use Rattle.pm_lexer.specs.Symbol.{symbol_of, same_symbol, is, spelling, reserved_word, canonical_sign}
 use Rattle.pm_syntax.specs.Terminals.{compares}
-use Rattle.pm_lexer.specs.Language.{Is}
-use Rattle.pm_lexer.specs.Reading.{Read, ◌>>=◌, token_at}
-use Rattle.pm_lexer.proofs.Phrases.{Phrase, Reader}
-use Rattle.pm_lexer.proofs.Readers.{Then, token_reader}
+use Rattle.pm_grammar.specs.Language.{Is}
+use Rattle.pm_grammar.specs.Reading.{Read, ◌>>=◌, token_at}
+use Rattle.pm_grammar.proofs.Phrases.{Phrase, Reader}
+use Rattle.pm_grammar.proofs.Readers.{Then, token_reader}
 
 -- a token is its symbol
 pub is_symbol : (s : Symbol) (t : Token) → is s t ≡ true → symbol_of t ≡ s

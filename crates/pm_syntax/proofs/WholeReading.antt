@@ -2,11 +2,11 @@
 use Rattle.std.proofs.Common.{◌≡◌, ◌⊎◌, ℕ, List, Result, Ok, Err, IsErrOf, refl, sym, ◌∙◌, ap, inl, inr}
 use Rattle.pm_lexer.specs.declared.token.Token.{Token}
 use Rattle.pm_lexer.specs.Tokens.{tokens_of}
-use Rattle.pm_lexer.specs.Reading.{Stop, expected, too_deep, too_many, whole}
-use Rattle.pm_lexer.specs.Answers.{CallsFor as Calls}
-use Rattle.pm_lexer.proofs.Phrases.{Law, Nothing}
-use Rattle.pm_lexer.proofs.Called.{law_calls}
-use Rattle.pm_lexer.proofs.Exclusive.{answers_same}
+use Rattle.pm_grammar.specs.Reading.{Stop, expected, too_deep, too_many, whole}
+use Rattle.pm_grammar.specs.Answers.{CallsFor as Calls}
+use Rattle.pm_grammar.proofs.Phrases.{Law, Nothing}
+use Rattle.pm_grammar.proofs.Called.{law_calls}
+use Rattle.pm_grammar.proofs.Exclusive.{answers_same}
 use Rattle.pm_syntax.specs.declared.tree.Select.{Select}
 use Rattle.pm_syntax.specs.declared.fault.SynBad.{SynBad}
 use Rattle.pm_syntax.specs.declared.fault.SynBad.TheVariants as bad

@@ -1,7 +1,7 @@
 -- What the tokens of a text are to the grammar: a statement, or why none.
 use Rattle.std.specs.Prelude.{ℕ, List, Result, Ok, Err}
 use Rattle.pm_lexer.specs.declared.token.Token.{Token}
-use Rattle.pm_lexer.specs.Answers.{nowhere, IsWhole, ExpectedIn, TooDeepIn, TooManyIn}
+use Rattle.pm_grammar.specs.Answers.{nowhere, IsWhole, ExpectedIn, TooDeepIn, TooManyIn}
 use Rattle.pm_syntax.specs.declared.fault.SynBad.{SynBad}
 use Rattle.pm_syntax.specs.declared.fault.SynBad.TheVariants as bad
 use Rattle.pm_syntax.specs.declared.tree.Select.{Select}

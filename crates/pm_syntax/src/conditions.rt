@@ -2,7 +2,7 @@ ghost use Rattle.std.specs.Prelude.{◌≡◌, length, nat_le, unwrap_or};
 ghost use Rattle.std.specs.Option.{option_copied};
 ghost use Rattle.pm_lexer.specs.declared.symbol.Symbol.TheVariants as symbol;
 ghost use Rattle.pm_lexer.specs.Symbol.{is};
-ghost use Rattle.pm_lexer.specs.Reading.{token_at, entry_at, more_at, sees};
+ghost use Rattle.pm_grammar.specs.Reading.{token_at, entry_at, more_at, sees};
 ghost use Rattle.pm_syntax.specs.Grammar.{all_of, any_of};
 ghost use Rattle.pm_syntax.specs.Terminals.{comparison_of, compares};
 ghost use Rattle.pm_syntax.specs.Reading.{Gives, literals_at, compare_behind, null_behind, in_behind, between_behind, range_behind, test_behind, test_at, ands_at, cond_at, part_peek, part_at, condition_at, begins_test, opens};
@@ -307,7 +307,7 @@ fn and_member(
 }
 
 // part-and = part { AND part }
-#[tactic(auto, unfolding(pm_lexer::specs::Reading::list_at, crate::specs::Reading::ands_at))]
+#[tactic(auto, unfolding(pm_grammar::specs::Reading::list_at, crate::specs::Reading::ands_at))]
 #[cycle(cond)]
 fn part_and(
     alloc: Global,
@@ -364,7 +364,7 @@ fn or_member(
 }
 
 // cond = part-and { OR part-and }
-#[tactic(auto, unfolding(pm_lexer::specs::Reading::list_at, crate::specs::Reading::cond_at))]
+#[tactic(auto, unfolding(pm_grammar::specs::Reading::list_at, crate::specs::Reading::cond_at))]
 #[cycle(cond)]
 fn cond(
     alloc: Global,

@@ -1,6 +1,6 @@
 ghost use Rattle.std.specs.Prelude.{◌≡◌, Ok};
 ghost use Rattle.pm_lexer.specs.Symbol.{is};
-ghost use Rattle.pm_lexer.specs.Reading.{token_at};
+ghost use Rattle.pm_grammar.specs.Reading.{token_at};
 ghost use Rattle.pm_syntax.specs.Reading.{Gives, given_at, item_at, direction_at, key_at, begins_literal};
 
 use crate::expressions::{column, expr, literal};

@@ -1,7 +1,7 @@
 ghost use Rattle.std.specs.Prelude.{◌≡◌, ◌++◌, ◌∷◌, [], length, nat_le};
 ghost use Rattle.pm_lexer.specs.declared.symbol.Symbol.TheVariants as symbol;
 ghost use Rattle.pm_lexer.specs.Symbol.{is};
-ghost use Rattle.pm_lexer.specs.Reading.{token_at, entry_at, more_at, list_at, place_of};
+ghost use Rattle.pm_grammar.specs.Reading.{token_at, entry_at, more_at, list_at, place_of};
 ghost use Rattle.pm_syntax.specs.Reading.{Gives};
 
 use crate::fault::SynBad;
@@ -14,7 +14,7 @@ use std::alloc::Global;
 pub(crate) trait Entry: Sized + Drop {
     ghost use Rattle.std.specs.Prelude.{List};
     ghost use Rattle.pm_lexer.specs.declared.token.Token.{Token};
-    ghost use Rattle.pm_lexer.specs.Reading.{Read};
+    ghost use Rattle.pm_grammar.specs.Reading.{Read};
 
     /// What reading an entry answers.
     ghost reads: { List Token → Read Self };
@@ -65,7 +65,7 @@ fn more<E: Entry>(
 }
 
 // One or more entries with commas between them, at most so many.
-#[tactic(auto, unfolding(pm_lexer::specs::Reading::list_at))]
+#[tactic(auto, unfolding(pm_grammar::specs::Reading::list_at))]
 pub(crate) fn list<E: Entry>(
     alloc: Global,
     limit: usize,

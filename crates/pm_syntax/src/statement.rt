@@ -6,7 +6,7 @@ ghost use Rattle.pm_syntax.specs.declared.fault.SynBad.TheVariants as bad;
 ghost use Rattle.pm_syntax.specs.Statement.{CallsFor};
 ghost use Rattle.pm_lexer.specs.declared.symbol.Symbol.TheVariants as symbol;
 ghost use Rattle.pm_lexer.specs.Symbol.{is};
-ghost use Rattle.pm_lexer.specs.Reading.{token_at, entry_at, more_at, sees, whole};
+ghost use Rattle.pm_grammar.specs.Reading.{token_at, entry_at, more_at, sees, whole};
 ghost use Rattle.pm_syntax.specs.Reading.{Gives, items_at, join_at, joins, on_at, source_at, sources_at, where_at, having_at, groups_at, orders_at, select_at};
 
 use crate::conditions::condition;

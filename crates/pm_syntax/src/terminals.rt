@@ -3,7 +3,7 @@ ghost use Rattle.std.specs.Option.{option_copied};
 ghost use Rattle.std.specs.Char.{is_ascii_digit};
 ghost use Rattle.std.specs.Str.{str_eq_ignore_ascii_case};
 ghost use Rattle.pm_lexer.specs.Symbol.{is};
-ghost use Rattle.pm_lexer.specs.Reading.{sees, token_at, place_of};
+ghost use Rattle.pm_grammar.specs.Reading.{sees, token_at, place_of};
 ghost use Rattle.pm_syntax.specs.Terminals.{named, func_named, func_of, comparison_of, magnitude};
 ghost use Rattle.pm_syntax.specs.Reading.{Gives, optional_at, name_at};
 

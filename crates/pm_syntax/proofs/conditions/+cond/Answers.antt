@@ -3,7 +3,7 @@ use Rattle.std.proofs.lemmas.Result.{err_from_is_err_and}
 use Rattle.pm_lexer.specs.declared.symbol.Symbol.TheVariants as symbol
 use Rattle.pm_lexer.specs.Symbol.{is}
 use Rattle.pm_syntax.specs.Reading.{ands_at, part_at, part_peek}
-use Rattle.pm_lexer.proofs.Turns.{more_ends, more_stops, token_took, token_fails}
+use Rattle.pm_grammar.proofs.Turns.{more_ends, more_stops, token_took, token_fails}
 use Rattle.pm_syntax.proofs.Steps.{fails_through, ands_fail, cond_fails}
 use Rattle.pm_syntax.proofs.conditions.+cond.Goals as goal
 

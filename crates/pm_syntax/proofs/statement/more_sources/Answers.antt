@@ -2,9 +2,9 @@ use Rattle.std.proofs.Common.{rules, arith, ◌+◌, ◌-◌, length, sym, ◌�
 use Rattle.std.proofs.lemmas.Result.{err_from_is_err_and}
 use Rattle.pm_lexer.specs.declared.symbol.Symbol.TheVariants as symbol
 use Rattle.pm_lexer.specs.Symbol.{is}
-use Rattle.pm_lexer.specs.Reading.{token_at}
+use Rattle.pm_grammar.specs.Reading.{token_at}
 use Rattle.pm_syntax.specs.Reading.{joins, join_at, source_at}
-use Rattle.pm_lexer.proofs.Turns.{more_ends, more_stops, more_took, more_fails}
+use Rattle.pm_grammar.proofs.Turns.{more_ends, more_stops, more_took, more_fails}
 use Rattle.pm_syntax.proofs.Steps.{fails_through, sep_fails}
 use Rattle.pm_syntax.proofs.statement.more_sources.Goals as goal
 

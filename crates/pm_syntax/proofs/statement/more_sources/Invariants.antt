@@ -1,7 +1,7 @@
 use Rattle.std.proofs.Common.{◌≡◌, ◌-◌, length}
 use Rattle.pm_lexer.specs.declared.symbol.Symbol.TheVariants as symbol
 use Rattle.pm_lexer.specs.Symbol.{is}
-use Rattle.pm_lexer.specs.Reading.{token_at, more_at}
+use Rattle.pm_grammar.specs.Reading.{token_at, more_at}
 use Rattle.pm_syntax.specs.Reading.{joins, join_at, source_at}
 use Rattle.pm_syntax.proofs.statement.more_sources.Given as goal
 

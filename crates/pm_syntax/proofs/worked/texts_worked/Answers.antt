@@ -6,7 +6,7 @@ use Rattle.pm_lexer.specs.Pieces.{quotation, single_quotes}
 use Rattle.pm_lexer.specs.Head.{head_of, number_at, named_at, sign_at}
 use Rattle.pm_lexer.specs.Head.{name_at as word_at}
 use Rattle.pm_lexer.specs.Tokens.{tokens_of, tokens_behind}
-use Rattle.pm_lexer.specs.Reading.{list_at, more_at}
+use Rattle.pm_grammar.specs.Reading.{list_at, more_at}
 use Rattle.pm_syntax.specs.declared.fault.SynBad.TheVariants as bad
 use Rattle.pm_syntax.specs.Terminals.{func_named}
 use Rattle.pm_syntax.specs.Reading.{name_at, column_behind, column_at, call_behind, expr_behind, expr_at, literal_at, term_at, operand_at, literals_at, compare_behind, null_behind, in_behind, between_behind, range_behind, test_behind, test_at, ands_at, cond_at, part_peek, part_at, condition_at, given_at, item_at, items_at, join_at, on_at, source_at, sources_at, where_at, having_at, groups_at, direction_at, key_at, orders_at, select_at}

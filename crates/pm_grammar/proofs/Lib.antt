@@ -1,0 +1,15 @@
+pub mod Phrases
+pub mod Readers
+pub mod Lists
+pub mod Furthers
+pub mod Firsts
+pub mod Repeats
+pub mod Turns
+pub mod Called
+pub mod Exclusive
+pub mod Outcomes
+pub mod Sets
+pub mod Helpers
+pub mod Symbols
+pub mod Clauses
+pub mod Yields

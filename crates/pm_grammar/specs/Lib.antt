@@ -1,0 +1,4 @@
+pub mod Language
+pub mod Reading
+pub mod Outcome
+pub mod Answers

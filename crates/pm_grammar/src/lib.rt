@@ -1,0 +1,13 @@
+//! What the readers of statements and of schemas share: terminals, names, lists with separators, and what a reading
+//! answers. The theory of readers of token lists, and of the one answer that tokens call for, is in specs/ and proofs/.
+#![tactic(auto)]
+
+mod entries;
+mod fault;
+mod names;
+mod terminal;
+
+pub use entries::{Entry, Series, further, further_series, further_while, list};
+pub use fault::SynBad;
+pub use names::{PlacedName, PlacedNames, name, placed};
+pub use terminal::{Terminal, after, optional, place, sees, token};
