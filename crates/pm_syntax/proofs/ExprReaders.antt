@@ -25,7 +25,7 @@ use Rattle.pm_grammar.specs.Reading.{named, name_at}
 use Rattle.pm_syntax.specs.Terminals.{func_of, func_of_kind, magnitude}
 use Rattle.pm_syntax.specs.Grammar.{IsName, IsColumn, counts, is_count, IsCountAll, IsCall, IsExpr, IsLiteral, IsTerm, IsOperand}
 use Rattle.pm_syntax.specs.Reading.{column_after, column_at, call_after, expr_after, expr_at, literal_at, term_at, operand_at}
-use Rattle.pm_grammar.proofs.Symbols.{is_symbol, sample, sample_is, symbol_reader}
+use Rattle.pm_grammar.proofs.Symbols.{sample, sample_is, symbol_reader}
 use Rattle.pm_grammar.proofs.Helpers.{token_began}
 use Rattle.pm_grammar.proofs.Sets.{AnyOf, widened, none_other, apart}
 

@@ -15,7 +15,7 @@ use Rattle.pm_syntax.specs.declared.tree.Test.TheVariants as test
 use Rattle.pm_syntax.specs.Terminals.{begins_test, opens}
 use Rattle.pm_syntax.specs.Grammar.{all_of, any_of, IsPartAnd, IsCond, IsPart}
 use Rattle.pm_syntax.specs.Reading.{test_at, ands_at, cond_at, part_peek, part_at, condition_at}
-use Rattle.pm_grammar.proofs.Symbols.{is_symbol, sample, sample_is, symbol_reader}
+use Rattle.pm_grammar.proofs.Symbols.{sample, sample_is, symbol_reader}
 use Rattle.pm_grammar.proofs.Sets.{AnyOf, widened, apart, within}
 use Rattle.pm_syntax.proofs.Parts.{no_not, no_open}
 use Rattle.pm_grammar.proofs.Helpers.{token_began, then_peek}

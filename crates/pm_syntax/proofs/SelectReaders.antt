@@ -27,7 +27,7 @@ use Rattle.pm_syntax.specs.declared.tree.Link.TheVariants as link
 use Rattle.pm_syntax.specs.Terminals.{begins_link}
 use Rattle.pm_syntax.specs.Grammar.{IsName, IsColumn, IsExpr, IsCondition, IsGiven, IsItem, IsItems, IsLink, IsJoinCondition, IsOn, is_left, IsSource, IsSources, IsFilter, IsGroups, IsHaving, IsDirection, IsKey, IsOrders, IsSelect}
 use Rattle.pm_syntax.specs.Reading.{column_at, expr_at, condition_at, given_at, item_at, items_at, link_at, join_condition_at, on_at, source_at, sources_at, where_at, having_at, groups_at, direction_at, key_at, orders_at, select_at}
-use Rattle.pm_grammar.proofs.Symbols.{is_symbol, sample, sample_is, symbol_reader}
+use Rattle.pm_grammar.proofs.Symbols.{sample, sample_is, symbol_reader}
 use Rattle.pm_grammar.proofs.Sets.{AnyOf, widened, none_other, none_stops, apart, within, disjoint}
 use Rattle.pm_grammar.proofs.Helpers.{maybe_reader}
 use Rattle.pm_syntax.proofs.ExprReaders.{name_reader, column_reader, column_began, expr_reader, expr_begins, expr_began}

@@ -1,11 +1,10 @@
 -- What stops the reading of a list.
-use Rattle.std.proofs.Common.{◌≡◌, ◌+◌, ℕ, Bool, true, List, [], ◌∷◌, length, Result, Ok, Err, refl}
+use Rattle.std.proofs.Common.{◌≡◌, List, [], ◌∷◌, length, Ok}
 use Rattle.pm_lexer.specs.declared.token.Token.{Token}
-use Rattle.pm_grammar.specs.Reading.{Stop, expected, too_deep, too_many, Read, ◌>>=◌, sees, token_at, more_at, list_at}
+use Rattle.pm_grammar.specs.Reading.{Read, token_at, more_at, list_at}
 use Rattle.pm_grammar.specs.Outcome.{Fails}
 use Rattle.pm_grammar.proofs.Outcomes.{bind_fails}
 use Rattle.pm_grammar.specs.declared.fault.SynBad.{SynBad}
-use Rattle.pm_grammar.specs.declared.fault.SynBad.TheVariants as bad
 use Rattle.pm_lexer.specs.declared.symbol.Symbol.TheVariants as symbol
 use Rattle.pm_lexer.specs.Symbol.{is}
 use Rattle.pm_syntax.specs.declared.tree.Test.{Test}
