@@ -11,3 +11,4 @@ pub mod Outcomes
 pub mod Sets
 pub mod Helpers
 pub mod Symbols
+pub mod Clauses

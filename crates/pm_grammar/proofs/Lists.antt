@@ -114,7 +114,7 @@ pub entry_same : {A S : Type 0} (limit : ℕ) (Sep : Phrase S) (P : S → Phrase
 entry_same limit Sep P before s lt = record { to = λ d g next ts h. (h.0, (λ le. absurd (omega arith), h.1)); from = λ d g next ts h. (h.0, h.1.1) }
 
 -- past it one begins where the gate is open
-entry_began : {A S : Type 0} (limit : ℕ) (Sep : Phrase S) (P : S → Phrase A) (before : List A) (s : S) (n : ℕ) (tail : List Token) → Began (P s) n [] tail → Began (Some (Entry limit Sep P before) s) n [] tail
+pub entry_began : {A S : Type 0} (limit : ℕ) (Sep : Phrase S) (P : S → Phrase A) (before : List A) (s : S) (n : ℕ) (tail : List Token) → Began (P s) n [] tail → Began (Some (Entry limit Sep P before) s) n [] tail
 unfolding IsMore
 entry_began limit Sep P before s n tail b = record {
   more = b.more;

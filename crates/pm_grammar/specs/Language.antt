@@ -47,3 +47,7 @@ IsList gate limit P sep next = P (λ a. IsFurther gate limit (Is sep) (λ _. P) 
 -- a token that may stand
 abbrev pub IsOptional : (Token → Bool) → Lang (Option Token)
 IsOptional test next ts = next None ts ⊎ Is test (λ t. next (Some t)) ts
+
+-- a clause after a separator and its first word, or none
+abbrev pub IsClause : {A : Type 0} → (Token → Bool) → (Token → Bool) → Lang A → Lang (Option A)
+IsClause sep word P next ts = next None ts ⊎ Is sep (λ _. Is word (λ _. P (λ a. next (Some a)))) ts

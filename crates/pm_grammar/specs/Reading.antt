@@ -1,5 +1,5 @@
 -- What a reader answers, token by token.
-use Rattle.std.specs.Prelude.{ℕ, zero, suc, Bool, false, if◌then◌else◌, List, [], ◌∷◌, ◌++◌, Option, Some, None, Result, Ok, Err, length, nat_le}
+use Rattle.std.specs.Prelude.{ℕ, zero, suc, Bool, false, ◌&&◌, if◌then◌else◌, List, [], ◌∷◌, ◌++◌, Option, Some, None, Result, Ok, Err, length, drop, nat_le}
 use Rattle.pm_lexer.specs.declared.token.Token.{Token}
 use Rattle.pm_lexer.specs.Pieces.{content_of}
 use Rattle.pm_grammar.specs.declared.names.PlacedName.{PlacedName}
@@ -37,6 +37,10 @@ token_at test (t ∷ ts) = if test t then Ok (t, ts) else Err (expected t.at)
 abbrev pub entry_at : {A : Type 0} → Bool → (List Token → Read Token) → (List Token → Read A) → List Token → Read A
 entry_at past peek p ts = if past then (peek ts >>= λ _. Err (too_many (place_of ts))) else p ts
 
+-- an entry whose first token was seen, or that there is none past the limit
+abbrev pub limited_at : {A : Type 0} → Bool → (List Token → Read A) → List Token → Read A
+limited_at past p ts = if past then Err (too_many (place_of ts)) else p ts
+
 -- further entries behind separators, in at most so many turns
 unfoldable pub more_at : {A S : Type 0} → (Token → Bool) → (List Token → Read S) → (List Token → Read Token) → (S → List Token → Read A) → ℕ → ℕ → List A → List Token → Read (List A)
 more_at starts sep peek p limit zero before ts = Ok (before, ts)
@@ -65,3 +69,15 @@ named token = record { text = content_of token; at = token.at }
 
 unfoldable pub name_at : (Token → Bool) → List Token → Read PlacedName
 name_at test ts = token_at test ts >>= λ name. Ok (named name.0, name.1)
+
+-- Further entries, while one begins after the separator: a list that is followed by clauses with the same separator.
+unfoldable pub more_while : {A : Type 0} → (Token → Bool) → (Token → Bool) → (List Token → Read A) → ℕ → ℕ → List A → List Token → Read (List A)
+more_while sep starts p limit zero before ts = Ok (before, ts)
+more_while sep starts p limit (suc n) before ts =
+    if sees sep ts && sees starts (drop 1 ts)
+    then (limited_at (nat_le limit (length before)) p (drop 1 ts) >>= λ a. more_while sep starts p limit n (before ++ a.0 ∷ []) a.1)
+    else Ok (before, ts)
+
+-- a clause after a separator, where its first word stands there
+unfoldable pub clause_at : {A : Type 0} → (Token → Bool) → (Token → Bool) → (List Token → Read A) → List Token → Read (Option A)
+clause_at sep word p ts = if sees sep ts && sees word (drop 1 ts) then (p (drop 1 (drop 1 ts)) >>= λ a. Ok (Some a.0, a.1)) else Ok (None, ts)

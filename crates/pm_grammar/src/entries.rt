@@ -1,10 +1,10 @@
 //! Lists of entries with separators between them.
 ghost use Rattle.std.specs.Prelude.{◌≡◌, length};
-ghost use Rattle.pm_grammar.specs.Reading.{token_at, entry_at, more_at, list_at, place_of};
+ghost use Rattle.pm_grammar.specs.Reading.{token_at, entry_at, limited_at, more_at, more_while, list_at, place_of};
 ghost use Rattle.pm_grammar.specs.Outcome.{Gives};
 
 use crate::fault::SynBad;
-use crate::terminal::{Terminal, after, place};
+use crate::terminal::{Terminal, after, place, sees};
 use pm_lexer::Token;
 use pm_values::Items;
 use std::alloc::Global;
@@ -84,4 +84,127 @@ pub fn list<E: Entry, T: Terminal>(
     let (first, rest) = E::read(alloc, tokens)?;
     list.push(first)?;
     further::<E, T>(alloc, separator, limit, list, rest)
+}
+
+// An entry whose first token was seen, or that there is none past the limit.
+fn limited<E: Entry>(
+    alloc: Global,
+    past: bool,
+    tokens: &[Token],
+) -> Result<(E::Value, &[Token]), SynBad>
+    ensures { Gives (λ x. (x.0, x.1.now)) result (limited_at past E.reads tokens.now) }
+{
+    if past {
+        return Err(SynBad::TooMany(place(tokens)));
+    }
+    E::read(alloc, tokens)
+}
+
+/// Further entries, each after a separator, while an entry's first terminal comes next after it: what follows the list
+/// may begin with the separator too.
+pub fn further_while<E: Entry, T: Terminal, U: Terminal>(
+    alloc: Global,
+    separator: T,
+    first: U,
+    limit: usize,
+    mut list: Items<E::Value>,
+    mut rest: &[Token],
+) -> Result<(Items<E::Value>, &[Token]), SynBad>
+    ensures { Gives (λ x. (x.0, x.1.now)) result (more_while (T.accepts separator) (U.accepts first) E.reads limit (length rest.entry.now) list rest.entry.now) }
+{
+    'entries: for _ in 0..rest.len() {
+        let Some(next) = after(separator, rest) else {
+            return Ok((list, rest));
+        };
+        if !sees(first, next) {
+            return Ok((list, rest));
+        }
+        let (entry, after) = limited::<E>(alloc, list.len() >= limit, next)?;
+        list.push(entry)?;
+        rest = after;
+    }
+    Ok((list, rest))
+}
+
+/// A kind of lists whose entries stand after separators of their own.
+pub trait Series {
+    ghost use Rattle.std.specs.Prelude.{◌≡◌, Bool, List};
+    ghost use Rattle.pm_lexer.specs.declared.token.Token.{Token};
+    ghost use Rattle.pm_grammar.specs.Reading.{Read, sees};
+    ghost use Rattle.pm_grammar.specs.Outcome.{Gives};
+
+    /// What a separator says.
+    type Separator: Copy;
+
+    /// What an entry says.
+    type Value: Drop;
+
+    /// Whether a token begins a separator.
+    ghost starts: { Token → Bool };
+
+    /// What reading a separator answers.
+    ghost separates: { List Token → Read Self.Separator };
+
+    /// What the first token of an entry past the limit of its list says.
+    ghost peeks: { List Token → Read Token };
+
+    /// What reading an entry after a separator answers.
+    ghost reads: { Self.Separator → List Token → Read Self.Value };
+
+    /// Whether a separator begins.
+    fn starts(tokens: &[Token]) -> bool
+        ensures { result ≡ sees starts tokens.now };
+
+    /// Reads a separator.
+    fn separate(tokens: &[Token]) -> Result<(Self::Separator, &[Token]), SynBad>
+        ensures { Gives (λ x. (x.0, x.1.now)) result (separates tokens.now) };
+
+    /// Reads the first token of an entry.
+    fn peek(tokens: &[Token]) -> Result<(&Token, &[Token]), SynBad>
+        ensures { Gives (λ x. (x.0.now, x.1.now)) result (peeks tokens.now) };
+
+    /// Reads an entry after a separator.
+    fn read(
+        alloc: Global,
+        separator: Self::Separator,
+        tokens: &[Token],
+    ) -> Result<(Self::Value, &[Token]), SynBad>
+        ensures { Gives (λ x. (x.0, x.1.now)) result (reads separator tokens.now) };
+}
+
+// An entry of a series, or why there is none past the limit.
+fn next_of_series<E: Series>(
+    alloc: Global,
+    past: bool,
+    separator: E::Separator,
+    tokens: &[Token],
+) -> Result<(E::Value, &[Token]), SynBad>
+    ensures { Gives (λ x. (x.0, x.1.now)) result (entry_at past E.peeks (E.reads separator) tokens.now) }
+{
+    if past {
+        let (_, _) = E::peek(tokens)?;
+        return Err(SynBad::TooMany(place(tokens)));
+    }
+    E::read(alloc, separator, tokens)
+}
+
+/// Further entries of a series, up to this limit of the whole list.
+pub fn further_series<E: Series>(
+    alloc: Global,
+    limit: usize,
+    mut list: Items<E::Value>,
+    mut rest: &[Token],
+) -> Result<(Items<E::Value>, &[Token]), SynBad>
+    ensures { Gives (λ x. (x.0, x.1.now)) result (more_at E.starts E.separates E.peeks E.reads limit (length rest.entry.now) list rest.entry.now) }
+{
+    'entries: for _ in 0..rest.len() {
+        if !E::starts(rest) {
+            return Ok((list, rest));
+        }
+        let (separator, next) = E::separate(rest)?;
+        let (entry, after) = next_of_series::<E>(alloc, list.len() >= limit, separator, next)?;
+        list.push(entry)?;
+        rest = after;
+    }
+    Ok((list, rest))
 }

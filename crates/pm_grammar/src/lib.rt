@@ -7,7 +7,7 @@ mod fault;
 mod names;
 mod terminal;
 
-pub use entries::{Entry, further, list};
+pub use entries::{Entry, Series, further, further_series, further_while, list};
 pub use fault::SynBad;
 pub use names::{PlacedName, PlacedNames, name, placed};
 pub use terminal::{Terminal, after, optional, place, sees, token};

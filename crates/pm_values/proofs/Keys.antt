@@ -1,6 +1,7 @@
 -- lists of values are one key where they are equal and hold no NULL
-use Rattle.std.proofs.Common.{◌≡◌, ◌∙◌, List, [], ◌∷◌, refl, sym, ap}
+use Rattle.std.proofs.Common.{◌≡◌, ◌∙◌, inl, inr, List, [], ◌∷◌, refl, sym, ap}
 use Rattle.std.specs.Prelude.{◌≢◌, ◌↔◌, Bool, true, false, not, ◌&&◌, IsTrue, All}
+use Rattle.std.proofs.lemmas.Bool.{cases_Bool}
 use Rattle.std.proofs.lemmas.List.Elements.{All-nil, All-head, All-tail, All-cons}
 use Rattle.pm_values.specs.declared.value.Value.{Value}
 use Rattle.pm_values.specs.declared.value.Value.TheVariants as value
@@ -46,3 +47,23 @@ same_key_itself (a ∷ more) present =
 
 pub same_key_equal : (a b : List Value) → IsTrue (same_key a b) ↔ ((a ≡ b) × All (λ v. v ≢ value.Null) a)
 same_key_equal a b = (same_key_forward a b, λ h. ap (λ c. same_key a c) (sym h.0) ∙ same_key_itself a h.1)
+
+pub same_key_gives_equal : (a b : List Value) → same_key a b ≡ true → a ≡ b
+same_key_gives_equal a b e = ((same_key_equal a b).0 e).0
+
+same_key_turned : (a b : List Value) → same_key a b ≡ true → same_key b a ≡ true
+same_key_turned a b e = let same : a ≡ b = same_key_gives_equal a b e in ap (λ c. same_key b c) same ∙ ap (λ c. same_key c b) (sym same) ∙ e
+
+pub same_key_comm : (a b : List Value) → same_key a b ≡ same_key b a
+same_key_comm a b =
+    elim (cases_Bool (same_key a b)) [
+      | inl t ↦ t ∙ sym (same_key_turned a b t)
+      | inr f ↦ elim (cases_Bool (same_key b a)) [
+        | inl t ↦ same_key_turned b a t ∙ sym t
+        | inr g ↦ f ∙ sym g
+      ]
+    ]
+
+-- what holds no NULL is its own key, and so is what is one with another
+pub same_key_of_itself : (a b : List Value) → same_key a b ≡ true → same_key a a ≡ true
+same_key_of_itself a b e = ap (λ c. same_key a c) (same_key_gives_equal a b e) ∙ e

@@ -2,7 +2,9 @@ pub mod Row
 pub mod Order
 pub mod Equality
 pub mod Condition
-pub mod Readable
+pub mod WellFormed
 pub mod Worked
 pub mod Table
 pub mod ValueText
+pub mod References
+pub mod Keys

@@ -6,7 +6,7 @@ use Rattle.std.specs.Ordering.{int_cmp, nat_cmp}
 use Rattle.std.specs.Cmp.Lexicographic.{slice_cmp}
 use Rattle.pm_values.specs.declared.value.Value.{Value}
 use Rattle.pm_values.specs.declared.value.Value.TheVariants as value
-use Rattle.pm_values.specs.Row.{pick}
+use Rattle.pm_values.specs.Row.{AllBelow, pick}
 
 abbrev pub is_less : Ordering → Bool
 is_less ordering.Less = true
@@ -25,21 +25,21 @@ value_cmp (value.Text s) value.Null = ordering.Greater
 value_cmp (value.Text s) (value.Int n) = ordering.Greater
 value_cmp (value.Text s) (value.Text t) = slice_cmp nat_cmp s t
 
--- lists of values, by the first place at which they differ
+-- lists of values, by the first position at which they differ
 abbrev pub values_cmp : List Value → List Value → Ordering
 values_cmp = slice_cmp value_cmp
 
--- the chosen columns of the row at a place, from 0
-abbrev pub pick_at : List ℕ → List (List Value) → ℕ → List Value
-pick_at columns rows at = pick columns (get_or rows at [])
+-- the chosen columns of the row at a position, from 0
+abbrev pub key_at : List ℕ → List (List Value) → ℕ → List Value
+key_at columns rows at = pick columns (get_or rows at [])
 
 -- no two rows agree in all of these columns
 abbrev pub IsKey : List ℕ → List (List Value) → Type 0
-IsKey columns rows = (i j : ℕ) → i < j → j < length rows → pick_at columns rows i ≢ pick_at columns rows j
+IsKey columns rows = (i j : ℕ) → i < j → j < length rows → key_at columns rows i ≢ key_at columns rows j
 
 -- the rows ascend by these columns; neighbours may be equal
 abbrev pub Ascends : List ℕ → List (List Value) → Type 0
-Ascends columns rows = (i : ℕ) → suc i < length rows → values_cmp (pick_at columns rows i) (pick_at columns rows (suc i)) ≢ ordering.Greater
+Ascends columns rows = (i : ℕ) → suc i < length rows → values_cmp (key_at columns rows i) (key_at columns rows (suc i)) ≢ ordering.Greater
 
 -- KEY, where there is one, holds of the rows
 abbrev pub KeyHolds : Option (List ℕ) → List (List Value) → Type 0
@@ -51,7 +51,7 @@ abbrev pub OrderHolds : Option (List ℕ) → List (List Value) → Type 0
 OrderHolds None rows = Unit {0}
 OrderHolds (Some columns) rows = Ascends columns rows
 
--- KEY and ORDER, where there are such, name columns of their table
+-- KEY or ORDER, where there is one, names columns of a table of this width
 abbrev pub NamesColumns : Option (List ℕ) → ℕ → Type 0
 NamesColumns None width = Unit {0}
-NamesColumns (Some columns) width = (k : ℕ) → k < length columns → get_or columns k 0 < width
+NamesColumns (Some columns) width = AllBelow columns width

@@ -1,11 +1,14 @@
 -- a declaration, a declared table with its rows, and when the rows are what the declaration says
-use Rattle.std.specs.Prelude.{◌≡◌, ◌≤◌, ◌^◌, ℕ, true, List, [], ◌∷◌, length, Option, All, FitsSigned}
+use Rattle.std.specs.Prelude.{◌≡◌, ◌≤◌, ℕ, true, List, [], ◌∷◌, length, Option, All, FitsSigned}
 use Rattle.std.specs.Int.{w64}
 use Rattle.pm_values.specs.declared.value.Value.{Value}
 use Rattle.pm_values.specs.declared.value.Value.TheVariants as value
 use Rattle.pm_values.specs.declared.value.Kind.{Kind}
 use Rattle.pm_values.specs.declared.value.Kind.TheVariants as kind
+use Rattle.pm_values.specs.declared.limits.TheConstants.{MOST_COLUMNS, MOST_DECIMALS, MOST_RECORDS}
 use Rattle.pm_values.specs.declared.table.ColumnDecl.{ColumnDecl}
+use Rattle.pm_values.specs.declared.table.Reference.{Reference}
+use Rattle.pm_values.specs.Row.{AllBelow}
 use Rattle.pm_values.specs.Order.{KeyHolds, NamesColumns, OrderHolds}
 
 -- a declaration as contracts see it
@@ -15,6 +18,7 @@ pub record Declaration : Type 0 where
   pub columns : List ColumnDecl
   pub key : Option (List ℕ)
   pub order : Option (List ℕ)
+  pub references : List Reference
 
 -- a table as contracts see it
 pub record Relation : Type 0 where
@@ -41,26 +45,31 @@ FitsColumns (column ∷ columns) (v ∷ values) = FitsColumn column v × FitsCol
 FitsColumns [] (v ∷ values) = ⊥
 FitsColumns (column ∷ columns) [] = ⊥
 
--- a fixed-point number has from 1 to 6 decimals
-abbrev pub IsScale : Kind → Type 0
-IsScale kind.Int = Unit {0}
-IsScale (kind.Num scale) = (1 ≤ scale) × (scale ≤ 6)
-IsScale kind.Text = Unit {0}
+-- a fixed-point number has from 1 to the most decimals
+abbrev pub IsValidKind : Kind → Type 0
+IsValidKind kind.Int = Unit {0}
+IsValidKind (kind.Num scale) = (1 ≤ scale) × (scale ≤ MOST_DECIMALS)
+IsValidKind kind.Text = Unit {0}
 
-abbrev pub HasScale : ColumnDecl → Type 0
-HasScale column = IsScale column.kind
+abbrev pub HasValidKind : ColumnDecl → Type 0
+HasValidKind column = IsValidKind column.kind
 
--- a declaration is narrow, and KEY and ORDER name columns of its own
+-- the columns that refer are columns of the referring table
+abbrev pub RefersByOwn : ℕ → Reference → Type 0
+RefersByOwn width reference = AllBelow reference.columns width
+
+-- a declaration is narrow, and KEY, ORDER and the references name columns of its own
 pub record IsDeclaration (decl : Declaration) : Type 0 where
-  pub narrow : length decl.columns ≤ 64
-  pub scales : All HasScale decl.columns
+  pub narrow : length decl.columns ≤ MOST_COLUMNS
+  pub scales : All HasValidKind decl.columns
   pub key_named : NamesColumns decl.key (length decl.columns)
   pub order_named : NamesColumns decl.order (length decl.columns)
+  pub references_named : All (RefersByOwn (length decl.columns)) decl.references
 
 -- the rows are what the declaration says
 pub record IsRelation (table : Relation) : Type 0 where
   pub declared : IsDeclaration table.decl
-  pub few : length table.rows ≤ 2 ^ 24
+  pub few : length table.rows ≤ MOST_RECORDS
   pub fit : All (FitsColumns table.decl.columns) table.rows
   pub keyed : KeyHolds table.decl.key table.rows
   pub ordered : OrderHolds table.decl.order table.rows

@@ -1,6 +1,7 @@
 -- how a value of a column's kind is written
 use Rattle.std.specs.Prelude.{ℕ, zero, suc, ◌+◌, ◌/◌, ◌%◌, ◌^◌, ◌≤◌, ℤ, pos, negsuc, List, [], ◌∷◌, ◌++◌, codes, decimal}
 use Rattle.std.specs.Fmt.{signed_decimal}
+use Rattle.pm_values.specs.declared.limits.TheConstants.{MOST_DECIMALS}
 use Rattle.pm_values.specs.declared.value.Value.{Value}
 use Rattle.pm_values.specs.declared.value.Value.TheVariants as value
 use Rattle.pm_values.specs.declared.value.Kind.{Kind}
@@ -35,7 +36,7 @@ value_text kind.Text (value.Int n) = []
 abbrev pub HasText : Kind → Value → Type 0
 HasText k value.Null = Unit {0}
 HasText kind.Int (value.Int n) = Unit {0}
-HasText (kind.Num scale) (value.Int n) = (1 ≤ scale) × (scale ≤ 6)
+HasText (kind.Num scale) (value.Int n) = (1 ≤ scale) × (scale ≤ MOST_DECIMALS)
 HasText kind.Text (value.Text t) = Unit {0}
 HasText kind.Int (value.Text t) = ⊥
 HasText (kind.Num scale) (value.Text t) = ⊥

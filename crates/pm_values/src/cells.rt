@@ -1,11 +1,12 @@
-ghost use Rattle.std.specs.Prelude.{◌≡◌, ◌^◌, ◌<◌, ℕ, length, get_or};
-ghost use Rattle.pm_values.specs.Row.{cell, pick};
+//! Lists of values that are lent: rows, and chosen columns of rows.
+ghost use Rattle.std.specs.Prelude.{◌≡◌, ◌^◌, ◌<◌, length};
+ghost use Rattle.pm_values.specs.Row.{AllBelow, cell, pick};
 
 use crate::items::Columns;
 use crate::value::{Row, Value};
 use std::marker::Model;
 
-/// A list of values that is read by place: a row, or chosen columns of one.
+/// A list of values that is read by position: a row, or chosen columns of one.
 pub trait Cells {
     ghost use Rattle.pm_values.specs.Row.{Row};
 
@@ -16,7 +17,7 @@ pub trait Cells {
         requires { length (cells self.now) < 2 ^ 32 }
         ensures { result ≡ length (cells self.now) };
 
-    /// The value at this place, from 0.
+    /// The value at this position, from 0.
     fn cell(&self, at: u32) -> &Value
         requires few { length (cells self.now) < 2 ^ 32 }
         requires within { at < length (cells self.now) }
@@ -43,21 +44,21 @@ pub struct Pick<'a, C: Cells> {
 }
 
 impl<'a, C: Cells> Model for Pick<'a, C> {
-    ghost use Rattle.std.specs.Prelude.{◌<◌, ◌^◌, ℕ, length, get_or};
-    ghost use Rattle.pm_values.specs.Row.{Row, pick};
+    ghost use Rattle.std.specs.Prelude.{◌<◌, ◌^◌, length};
+    ghost use Rattle.pm_values.specs.Row.{AllBelow, Row, pick};
 
     ghost Value = { Row };
 
     ghost view = { λ p. pick p.columns.now (C.cells p.of.now) };
 
-    ghost invariant = { λ p. (length (C.cells p.of.now) < 2 ^ 32) × ((k : ℕ) → k < length p.columns.now → get_or p.columns.now k 0 < length (C.cells p.of.now)) };
+    ghost invariant = { λ p. (length (C.cells p.of.now) < 2 ^ 32) × AllBelow p.columns.now (length (C.cells p.of.now)) };
 }
 
 impl<'a, C: Cells> Pick<'a, C> {
     /// These columns of a list that has them all.
     pub fn new(of: &'a C, columns: &'a Columns) -> Pick<'a, C>
         requires few { length (C.cells of.now) < 2 ^ 32 }
-        requires within { (k : ℕ) → k < length columns.now → get_or columns.now k 0 < length (C.cells of.now) }
+        requires within { AllBelow columns.now (length (C.cells of.now)) }
         ensures { result ≡ pick columns.now (C.cells of.now) }
     {
         Pick { of, columns }

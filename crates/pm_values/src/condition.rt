@@ -1,3 +1,4 @@
+//! Conditions on rows, and the three truths that they may have.
 ghost use Rattle.std.specs.Prelude.{◌≡◌, IfOk};
 ghost use Rattle.pm_values.specs.Condition.{truth_of, negated, both, either, compares, operand_scale};
 

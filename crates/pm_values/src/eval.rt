@@ -1,10 +1,12 @@
+//! What a condition is on a row.
 ghost use Rattle.std.specs.Prelude.{◌≡◌, ◌^◌, ◌<◌, ◌≤◌, All, length, map};
 ghost use Rattle.pm_values.specs.Equality.{is_null};
 ghost use Rattle.pm_values.specs.Condition.{all_of, any_of, compared, operand_scale, operand_value, truth};
-ghost use Rattle.pm_values.specs.Readable.{IsReadable, IsReadableOperand};
+ghost use Rattle.pm_values.specs.WellFormed.{IsWellFormed, IsWellFormedOperand};
 
 use crate::cells::Cells;
 use crate::condition::{Comparison, Cond, Operand, Truth};
+use crate::limits::MOST_DECIMALS;
 use crate::order::compare;
 use crate::scaled::compare_scaled;
 use crate::value::Value;
@@ -13,7 +15,7 @@ impl Operand {
     /// Its value on a row.
     pub fn value<'a, C: Cells>(&'a self, row: &'a C) -> &'a Value
         requires few { length (C.cells row.now) < 2 ^ 32 }
-        requires readable { IsReadableOperand (length (C.cells row.now)) self.now }
+        requires well_formed { IsWellFormedOperand (length (C.cells row.now)) self.now }
         ensures { result.now ≡ operand_value self.now (C.cells row.now) }
     {
         match self {
@@ -28,7 +30,7 @@ impl Cond {
     #[cycle(eval)]
     pub fn eval<C: Cells>(&self, row: &C) -> Truth
         requires few { length (C.cells row.now) < 2 ^ 32 }
-        requires readable { IsReadable (length (C.cells row.now)) self.now }
+        requires well_formed { IsWellFormed (length (C.cells row.now)) self.now }
         ensures { result ≡ truth (C.cells row.now) self.now }
     {
         match self {
@@ -44,7 +46,7 @@ impl Cond {
 #[cycle(eval)]
 fn eval_all<C: Cells>(members: &[Cond], row: &C) -> Truth
     requires few { length (C.cells row.now) < 2 ^ 32 }
-    requires readable { All (IsReadable (length (C.cells row.now))) members.now }
+    requires well_formed { All (IsWellFormed (length (C.cells row.now))) members.now }
     ensures { result ≡ all_of (map (truth (C.cells row.now)) members.now) }
 {
     let mut so_far = Truth::Yes;
@@ -60,7 +62,7 @@ fn eval_all<C: Cells>(members: &[Cond], row: &C) -> Truth
 #[cycle(eval)]
 fn eval_any<C: Cells>(members: &[Cond], row: &C) -> Truth
     requires few { length (C.cells row.now) < 2 ^ 32 }
-    requires readable { All (IsReadable (length (C.cells row.now))) members.now }
+    requires well_formed { All (IsWellFormed (length (C.cells row.now))) members.now }
     ensures { result ≡ any_of (map (truth (C.cells row.now)) members.now) }
 {
     let mut so_far = Truth::No;
@@ -75,8 +77,8 @@ fn eval_any<C: Cells>(members: &[Cond], row: &C) -> Truth
 
 fn eval_compare<C: Cells>(how: Comparison, left: &Operand, right: &Operand, row: &C) -> Truth
     requires few { length (C.cells row.now) < 2 ^ 32 }
-    requires left { IsReadableOperand (length (C.cells row.now)) left.now }
-    requires right { IsReadableOperand (length (C.cells row.now)) right.now }
+    requires left { IsWellFormedOperand (length (C.cells row.now)) left.now }
+    requires right { IsWellFormedOperand (length (C.cells row.now)) right.now }
     ensures { result ≡ compared how (operand_scale left.now) (operand_scale right.now) (operand_value left.now (C.cells row.now)) (operand_value right.now (C.cells row.now)) }
 {
     compare_values(
@@ -89,8 +91,8 @@ fn eval_compare<C: Cells>(how: Comparison, left: &Operand, right: &Operand, row:
 }
 
 fn compare_values(how: Comparison, a: &Value, s: u8, b: &Value, t: u8) -> Truth
-    requires left { s ≤ 6 }
-    requires right { t ≤ 6 }
+    requires left { s ≤ MOST_DECIMALS }
+    requires right { t ≤ MOST_DECIMALS }
     ensures { result ≡ compared how s t a.now b.now }
 {
     match (a, b) {

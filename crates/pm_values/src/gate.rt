@@ -1,7 +1,9 @@
-/// Told when a part of parallel work begins. No answer depends on it.
-///
-/// An implementation may be shared between threads.
-pub trait Gate {
+//! What parallel work tells of its parts.
+
+use std::marker::Sync;
+
+/// Told when a part of parallel work begins, by the thread that does it. No answer depends on it.
+pub trait Gate: Sync {
     /// Part number `part`, from 0, begins.
     fn enter(&self, part: u32);
 }

@@ -1,3 +1,4 @@
+//! The one list type of all crates.
 ghost use Rattle.std.specs.Prelude.{◌≡◌, ◌==◌, ◌<◌, [], ◌∷◌, ◌++◌, length, slice_get, Some, IfOk, OnOk, OnErr};
 
 use crate::text::Txt;
@@ -40,6 +41,20 @@ impl<T> Items<T> {
         }
     }
 
+    /// The list of a vector's items, in order.
+    pub fn from_vec(items: Vec<T>) -> Self
+        ensures { result ≡ items.items }
+    {
+        Items { items }
+    }
+
+    /// The items, in order, as a vector.
+    pub fn into_vec(self) -> Vec<T>
+        ensures { result.items ≡ self }
+    {
+        self.items
+    }
+
     /// The number of items.
     pub fn len(&self) -> usize
         ensures { result ≡ length self.now }
@@ -54,7 +69,7 @@ impl<T> Items<T> {
         self.items.is_empty()
     }
 
-    /// The item at this place, from 0.
+    /// The item at this position, from 0.
     pub fn at(&self, i: usize) -> &T
         requires { i < length self.now }
         ensures { slice_get self.now i ≡ Some result.now }

@@ -1,3 +1,4 @@
+//! When two lists of values are one key.
 ghost use Rattle.std.specs.Prelude.{◌≡◌, ◌^◌, ◌<◌, length};
 ghost use Rattle.pm_values.specs.Equality.{is_null, same_key, same_key_value};
 

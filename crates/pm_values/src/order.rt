@@ -1,3 +1,4 @@
+//! The order on values.
 ghost use Rattle.std.specs.Prelude.{◌≡◌};
 ghost use Rattle.pm_values.specs.Order.{value_cmp};
 

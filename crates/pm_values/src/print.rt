@@ -1,6 +1,8 @@
+//! How values are written.
 ghost use Rattle.std.specs.Prelude.{◌≡◌, ◌≤◌, ◌++◌, IfOk, OnOk, string_bytes};
 ghost use Rattle.pm_values.specs.ValueText.{value_text, last_digits, signed_fixed_point, HasText};
 
+use crate::limits::MOST_DECIMALS;
 use crate::text::Txt;
 use crate::value::{Kind, Value};
 use itoa::Buffer;
@@ -24,7 +26,7 @@ pub fn value_text(alloc: Global, value: &Value, kind: Kind) -> Result<Txt, Alloc
 }
 
 fn fixed_point(alloc: Global, scale: u8, n: i128) -> Result<Txt, AllocError>
-    requires { scale ≤ 6 }
+    requires { scale ≤ MOST_DECIMALS }
     ensures { IfOk result (λ text. text ≡ signed_fixed_point scale n) }
 {
     let magnitude = n.unsigned_abs();

@@ -1,12 +1,14 @@
+//! How fixed-point numbers of different scales compare.
 ghost use Rattle.std.specs.Prelude.{◌≡◌, ◌*ℤ◌, ◌^◌, ◌<◌, ◌≤◌, ℕ, pos};
 ghost use Rattle.std.specs.Ordering.{int_cmp};
 
+use crate::limits::MOST_DECIMALS;
 use std::cmp::Ordering;
 
 /// How `m` times 10^-`s` stands against `n` times 10^-`t`.
 pub(crate) fn compare_scaled(m: i128, s: u8, n: i128, t: u8) -> Ordering
-    requires left { s ≤ 6 }
-    requires right { t ≤ 6 }
+    requires left { s ≤ MOST_DECIMALS }
+    requires right { t ≤ MOST_DECIMALS }
     ensures { result ≡ int_cmp (m *ℤ pos (10 ^ t)) (n *ℤ pos (10 ^ s)) }
 {
     if s <= t {

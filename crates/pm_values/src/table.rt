@@ -1,3 +1,4 @@
+//! Declared columns, references and tables.
 ghost use Rattle.std.specs.Prelude.{◌≡◌, IfOk, MatchOption, None, Some};
 ghost use Rattle.pm_values.specs.Table.{IsDeclaration, IsRelation};
 
@@ -31,11 +32,36 @@ impl ColumnDecl {
     }
 }
 
-/// A table as a schema declares it: its name, the file that holds its rows, its columns, and the columns that are its
-/// KEY (no two rows agree in all of them) and its ORDER (the rows ascend by them), where it has these.
+/// A reference as a schema declares it: in each row these columns have the values that the columns `keys` have in some row
+/// of the table with the name `target`.
+#[derive(Debug, Drop)]
+pub struct Reference {
+    pub columns: Columns,
+    pub target: Txt,
+    pub keys: Columns,
+}
+
+/// A list of references.
+pub type References = Items<Reference>;
+
+impl Reference {
+    /// An equal reference.
+    pub fn copy(&self, alloc: Global) -> Result<Reference, AllocError>
+        ensures { IfOk result (λ copy. copy ≡ self.now) }
+    {
+        Ok(Reference {
+            columns: Columns::from_slice(alloc, self.columns.as_slice())?,
+            target: self.target.copy(alloc)?,
+            keys: Columns::from_slice(alloc, self.keys.as_slice())?,
+        })
+    }
+}
+
+/// A table as a schema declares it: its name, the file that holds its rows, its columns, the columns that are its
+/// KEY (no two rows agree in all of them) and its ORDER (the rows ascend by them), where it has these, and its references.
 ///
-/// It has at most 64 columns, the scale of each fixed-point column is from 1 to 6, and KEY and ORDER name columns of
-/// its own, by their numbers from 0.
+/// It has at most 64 columns, the scale of each fixed-point column is from 1 to 6, and KEY, ORDER and the first list of
+/// each reference name columns of its own, by their numbers from 0.
 #[derive(Debug, Drop)]
 pub struct TableDecl {
     name: Txt,
@@ -43,6 +69,7 @@ pub struct TableDecl {
     columns: ColumnDecls,
     key: Option<Columns>,
     order: Option<Columns>,
+    references: References,
 }
 
 impl Model for TableDecl {
@@ -50,9 +77,9 @@ impl Model for TableDecl {
 
     ghost Value = { Declaration };
 
-    ghost view = { λ d. record { name = d.name; file = d.file; columns = d.columns; key = d.key; order = d.order } };
+    ghost view = { λ d. record { name = d.name; file = d.file; columns = d.columns; key = d.key; order = d.order; references = d.references } };
 
-    ghost invariant = { λ d. IsDeclaration (record { name = d.name; file = d.file; columns = d.columns; key = d.key; order = d.order }) };
+    ghost invariant = { λ d. IsDeclaration (record { name = d.name; file = d.file; columns = d.columns; key = d.key; order = d.order; references = d.references }) };
 }
 
 impl TableDecl {
@@ -63,9 +90,10 @@ impl TableDecl {
         columns: ColumnDecls,
         key: Option<Columns>,
         order: Option<Columns>,
+        references: References,
     ) -> TableDecl
-        requires { IsDeclaration (record { name = name; file = file; columns = columns; key = key; order = order }) }
-        ensures { result ≡ record { name = name; file = file; columns = columns; key = key; order = order } }
+        requires { IsDeclaration (record { name = name; file = file; columns = columns; key = key; order = order; references = references }) }
+        ensures { result ≡ record { name = name; file = file; columns = columns; key = key; order = order; references = references } }
     {
         TableDecl {
             name,
@@ -73,6 +101,7 @@ impl TableDecl {
             columns,
             key,
             order,
+            references,
         }
     }
 
@@ -114,6 +143,14 @@ impl TableDecl {
         self.order.as_ref()
     }
 
+    /// The references, in the order of the schema.
+    pub fn references(&self) -> &References
+        ensures value { result.now ≡ self.now.references }
+        ensures declared { IsDeclaration self.now }
+    {
+        &self.references
+    }
+
     /// An equal declaration.
     pub fn copy(&self, alloc: Global) -> Result<TableDecl, AllocError>
         ensures { IfOk result (λ copy. copy ≡ self.now) }
@@ -124,6 +161,7 @@ impl TableDecl {
             columns: copy_columns(alloc, &self.columns)?,
             key: copy_numbers(alloc, &self.key)?,
             order: copy_numbers(alloc, &self.order)?,
+            references: copy_references(alloc, &self.references)?,
         })
     }
 }
@@ -134,6 +172,16 @@ fn copy_columns(alloc: Global, columns: &ColumnDecls) -> Result<ColumnDecls, All
     let mut copy = ColumnDecls::new(alloc);
     for column in columns.as_slice() {
         copy.push(column.copy(alloc)?)?;
+    }
+    Ok(copy)
+}
+
+fn copy_references(alloc: Global, references: &References) -> Result<References, AllocError>
+    ensures { IfOk result (λ copy. copy ≡ references.now) }
+{
+    let mut copy = References::new(alloc);
+    for reference in references.as_slice() {
+        copy.push(reference.copy(alloc)?)?;
     }
     Ok(copy)
 }

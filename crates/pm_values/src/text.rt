@@ -1,3 +1,4 @@
+//! Texts.
 ghost use Rattle.std.specs.Prelude.{◌≡◌, IfOk, MatchOption, IsUtf8};
 
 use std::alloc::{AllocError, Global};

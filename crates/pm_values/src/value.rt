@@ -1,3 +1,4 @@
+//! Values, rows and the kinds of columns.
 ghost use Rattle.std.specs.Prelude.{◌≡◌, IfOk};
 
 use crate::items::Items;

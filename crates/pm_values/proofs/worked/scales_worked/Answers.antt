@@ -6,7 +6,7 @@ use Rattle.pm_values.specs.declared.condition.Operand.TheVariants as operand
 use Rattle.pm_values.specs.Condition.{is_yes}
 use Rattle.pm_values.specs.Worked.{number_row}
 use Rattle.pm_values.proofs.Truths.{truth_compare}
-use Rattle.pm_values.proofs.laws.scales_worked.Goals as goal
+use Rattle.pm_values.proofs.worked.scales_worked.Goals as goal
 
 pub returns-clause-six : goal.returns-clause-six
 returns-clause-six c = ap is_yes (truth_compare (number_row (pos 6)) comparison.Greater (operand.Column 0 0) (operand.Literal (value.Int (pos 55)) 1))

@@ -7,7 +7,7 @@ use Rattle.pm_values.specs.declared.condition.Truth.TheVariants.{Yes, No, Unknow
 use Rattle.pm_values.specs.Condition.{truth, negated}
 use Rattle.pm_values.specs.Worked.{null_row, is_one, always, never}
 use Rattle.pm_values.proofs.Truths.{truth_all, truth_any, truth_not, truth_compare}
-use Rattle.pm_values.proofs.laws.unknown_worked.Goals as goal
+use Rattle.pm_values.proofs.worked.unknown_worked.Goals as goal
 
 one : truth null_row is_one ≡ Unknown
 one = truth_compare null_row comparison.Equal (operand.Column 0 0) (operand.Literal (value.Int (pos 1)) 0)
