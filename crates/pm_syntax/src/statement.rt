@@ -5,11 +5,10 @@ ghost use Rattle.pm_lexer.specs.declared.symbol.Symbol.TheVariants as symbol;
 ghost use Rattle.pm_lexer.specs.Symbol.{is};
 ghost use Rattle.pm_grammar.specs.declared.fault.SynBad.{SynBad};
 ghost use Rattle.pm_grammar.specs.declared.fault.SynBad.TheVariants as bad;
-ghost use Rattle.pm_grammar.specs.Reading.{token_at, entry_at, more_at, whole};
+ghost use Rattle.pm_grammar.specs.Reading.{whole};
 ghost use Rattle.pm_grammar.specs.Outcome.{Gives};
 ghost use Rattle.pm_syntax.specs.declared.tree.Select.{Select};
 ghost use Rattle.pm_syntax.specs.Statement.{CallsFor};
-ghost use Rattle.pm_syntax.specs.Terminals.{begins_link};
 ghost use Rattle.pm_syntax.specs.Reading.{items_at, link_at, join_condition_at, on_at, source_at, sources_at, where_at, having_at, groups_at, orders_at, select_at};
 
 use crate::conditions::condition;
@@ -19,7 +18,7 @@ use crate::tree::{
     ColumnName, ColumnNames, Item, Items, Link, OrderItem, OrderItems, Select, Source, Sources,
     Test,
 };
-use pm_grammar::{SynBad, after, list, name, optional, place, sees, token};
+use pm_grammar::{Series, SynBad, after, further_series, list, name, optional, sees, token};
 use pm_lexer::{Symbol, Token, Tokens};
 use std::alloc::Global;
 
@@ -104,40 +103,40 @@ fn source(alloc: Global, link: Link, tokens: &[Token]) -> Result<(Source, &[Toke
     Ok((source, rest))
 }
 
-// A further source, or why there is none past the limit.
-fn next_source(
-    alloc: Global,
-    past: bool,
-    link: Link,
-    tokens: &[Token],
-) -> Result<(Source, &[Token]), SynBad>
-    ensures { Gives (λ x. (x.0, x.1.now)) result (entry_at past (token_at (is symbol.Name)) (source_at 32 link) tokens.now) }
-{
-    if past {
-        let (_, _) = token(Symbol::Name, tokens)?;
-        return Err(SynBad::TooMany(place(tokens)));
-    }
-    source(alloc, link, tokens)
-}
+impl Series for Source {
+    ghost use Rattle.pm_lexer.specs.declared.symbol.Symbol.TheVariants as symbol;
+    ghost use Rattle.pm_lexer.specs.Symbol.{is};
+    ghost use Rattle.pm_grammar.specs.Reading.{token_at};
+    ghost use Rattle.pm_syntax.specs.Terminals.{begins_link};
+    ghost use Rattle.pm_syntax.specs.Reading.{link_at, source_at};
 
-// Further sources.
-fn more_sources(
-    alloc: Global,
-    mut list: Sources,
-    mut rest: &[Token],
-) -> Result<(Sources, &[Token]), SynBad>
-    ensures { Gives (λ x. (x.0, x.1.now)) result (more_at begins_link link_at (token_at (is symbol.Name)) (source_at 32) 64 (length rest.entry.now) list rest.entry.now) }
-{
-    'sources: for _ in 0..rest.len() {
-        if !sees(LinkStart, rest) {
-            return Ok((list, rest));
-        }
-        let (link, next) = link(rest)?;
-        let (source, after) = next_source(alloc, list.len() >= ENTRIES, link, next)?;
-        list.push(source)?;
-        rest = after;
+    type Separator = Link;
+
+    type Value = Source;
+
+    ghost starts = { begins_link };
+
+    ghost separates = { link_at };
+
+    ghost peeks = { token_at (is symbol.Name) };
+
+    ghost reads = { source_at 32 };
+
+    fn starts(tokens: &[Token]) -> bool {
+        sees(LinkStart, tokens)
     }
-    Ok((list, rest))
+
+    fn separate(tokens: &[Token]) -> Result<(Link, &[Token]), SynBad> {
+        link(tokens)
+    }
+
+    fn peek(tokens: &[Token]) -> Result<(&Token, &[Token]), SynBad> {
+        token(Symbol::Name, tokens)
+    }
+
+    fn read(alloc: Global, link: Link, tokens: &[Token]) -> Result<(Source, &[Token]), SynBad> {
+        source(alloc, link, tokens)
+    }
 }
 
 // sources = source { "," source | [ INNER ] JOIN source ON cond | LEFT [ OUTER ] JOIN source ON cond }
@@ -148,7 +147,7 @@ fn sources(alloc: Global, tokens: &[Token]) -> Result<(Sources, &[Token]), SynBa
     let mut list = Sources::new(alloc);
     let (first, rest) = source(alloc, Link::Comma, tokens)?;
     list.push(first)?;
-    more_sources(alloc, list, rest)
+    further_series::<Source>(alloc, ENTRIES, list, rest)
 }
 
 // [ WHERE cond ]
