@@ -11,9 +11,10 @@ use Rattle.pm_values.specs.declared.condition.Comparison.TheVariants as comparis
 use Rattle.pm_syntax.specs.declared.tree.Test.{Test}
 use Rattle.pm_syntax.specs.declared.tree.Test.TheVariants as test
 use Rattle.pm_syntax.specs.Terminals.{comparison_of, comparison_of_symbol, compares}
-use Rattle.pm_syntax.specs.Grammar.{IsLiteral, IsOperand, IsOptional, IsCompare, IsNullTest, IsIn, IsBetween, IsTest}
+use Rattle.pm_grammar.specs.Language.{IsOptional}
+use Rattle.pm_syntax.specs.Grammar.{IsLiteral, IsOperand, IsCompare, IsNullTest, IsIn, IsBetween, IsTest}
 use Rattle.pm_canonical.proofs.Shapes.{Shape, shape_of, sign, word, between, shapes_literal, shapes_atom, shape_comparison, shapes_negation, shapes_layer, phrase_of, in_parens}
-use Rattle.pm_canonical.specs.Same.{unplaced_atom, unplaced_layer, unplaced_test}
+use Rattle.pm_syntax.specs.Same.{unplaced_atom, unplaced_layer, unplaced_test}
 use Rattle.pm_canonical.proofs.Valid.{ValidList, ValidLiteral, ValidAtom, ValidLeaf, compared, null_test, listed, ranged}
 use Rattle.pm_canonical.proofs.Combinators.{Reading, pure, shaped, better, mapped, left, right, bind, behind, token, passes, list_of}
 use Rattle.pm_canonical.proofs.Standing.{stands_is, stands_not, stands_null, stands_in, stands_open, stands_close, stands_comma, stands_between, stands_and}

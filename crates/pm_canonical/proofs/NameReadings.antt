@@ -6,18 +6,19 @@ use Rattle.pm_lexer.specs.declared.symbol.Symbol.TheVariants as symbol
 use Rattle.pm_lexer.specs.Symbol.{is, same_symbol}
 use Rattle.pm_lexer.specs.Pieces.{content_at}
 use Rattle.pm_grammar.specs.Language.{Is}
-use Rattle.pm_syntax.specs.declared.tree.PlacedName.{PlacedName}
+use Rattle.pm_grammar.specs.declared.names.PlacedName.{PlacedName}
 use Rattle.pm_syntax.specs.declared.tree.ColumnName.{ColumnName}
 use Rattle.pm_syntax.specs.declared.tree.Func.{Func}
 use Rattle.pm_syntax.specs.declared.tree.Func.TheVariants as func
 use Rattle.pm_syntax.specs.declared.tree.Expr.{Expr}
 use Rattle.pm_syntax.specs.declared.tree.Expr.TheVariants as expr
-use Rattle.pm_syntax.specs.Terminals.{named, func_of, func_of_kind, func_named}
+use Rattle.pm_grammar.specs.Reading.{named}
+use Rattle.pm_syntax.specs.Terminals.{func_of, func_of_kind, func_named}
 use Rattle.pm_syntax.specs.Grammar.{IsName, IsColumn, counts, is_count, IsCountAll, IsCall, IsExpr, IsGiven}
 use Rattle.pm_lexer.specs.Quoting.{quoted, is_plain}
 use Rattle.pm_canonical.specs.Canon.{canon_func}
 use Rattle.pm_canonical.proofs.Shapes.{Shape, shape_of, sign, word, shape_name, shapes_alias, shapes_column, shape_func, shapes_expr, shapes_given}
-use Rattle.pm_canonical.specs.Same.{unplaced_option, unplaced_name, unplaced_column, unplaced_expr}
+use Rattle.pm_syntax.specs.Same.{unplaced_option, unplaced_name, unplaced_column, unplaced_expr}
 use Rattle.pm_canonical.proofs.Combinators.{Reading, pure, mapped, left, right, bind, behind, token, symbol_token, Stands}
 use Rattle.pm_canonical.proofs.Standing.{stands_point, stands_open, stands_close, stands_star, stands_as}
 use Rattle.pm_canonical.proofs.Quoting.{content_name}

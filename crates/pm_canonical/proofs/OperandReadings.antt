@@ -1,9 +1,10 @@
 -- Literals and operands are read back.
-use Rattle.std.proofs.Common.{◌≡◌, ◌⊎◌, ℕ, ◌+◌, ℤ, pos, negsuc, neg_ℤ, Bool, true, false, List, [], ◌∷◌, decimal, unsigned_abs, int_lt, refl, ◌∙◌, ap, arith}
+use Rattle.std.proofs.Common.{◌≡◌, ◌⊎◌, ℕ, ◌+◌, ℤ, pos, negsuc, neg_ℤ, Bool, true, false, List, [], ◌∷◌, decimal, unsigned_abs, int_lt, refl, ◌∙◌, ap, arith, length, length-append, length-take, length-drop, ◌++◌, ◌≤◌, ◌-◌, ◌==◌, take, drop, codes, if◌then◌else◌, nat_le}
 use Rattle.std.proofs.lemmas.Bool.Decides.{nat_tests}
 use Rattle.pm_lexer.specs.declared.token.Token.{Token}
 use Rattle.pm_lexer.specs.declared.token.TokenKind.TheVariants as kind
 use Rattle.pm_lexer.specs.declared.symbol.Symbol.TheVariants as symbol
+use Rattle.pm_lexer.specs.declared.symbol.TheConstants.{NUMBER_BYTES}
 use Rattle.pm_lexer.specs.Symbol.{is, same_symbol}
 use Rattle.pm_lexer.specs.Pieces.{content_of, content_at, decimals_len}
 use Rattle.pm_grammar.specs.Language.{Lang, Is}
@@ -16,9 +17,9 @@ use Rattle.pm_syntax.specs.declared.tree.Atom.TheVariants as atom
 use Rattle.pm_syntax.specs.Terminals.{magnitude, magnitude_of}
 use Rattle.pm_syntax.specs.Grammar.{IsLiteral, IsTerm, IsOperand}
 use Rattle.pm_lexer.specs.Quoting.{quoted}
-use Rattle.pm_canonical.specs.Canon.{padded}
+use Rattle.pm_canonical.specs.Canon.{padded, pointed}
 use Rattle.pm_canonical.proofs.Shapes.{Shape, shape_of, sign, word, shape_digits, shapes_number, shapes_expr, shapes_literal, shapes_atom}
-use Rattle.pm_canonical.specs.Same.{unplaced_expr, unplaced_atom}
+use Rattle.pm_syntax.specs.Same.{unplaced_expr, unplaced_atom}
 use Rattle.pm_canonical.proofs.Valid.{ValidNumber, ValidLiteral, ValidTerm, ValidAtom}
 use Rattle.pm_canonical.proofs.Combinators.{Reading, pure, shaped, mapped, left, right, bind, behind, symbol_token, Stands}
 use Rattle.pm_canonical.proofs.Standing.{stands_null, stands_minus}
@@ -27,9 +28,22 @@ use Rattle.pm_canonical.proofs.Values.{digits_are, Pointed, pointed_is}
 use Rattle.pm_canonical.proofs.NameReadings.{column_expr, expr_read}
 
 -- a number without its sign
-digits_stand : (value : ℤ) (decimals : ℕ) → Stands symbol.Number (shape_digits value decimals)
+pointed_short : (d : ℕ) (digits : List ℕ) → length (pointed d digits) ≤ length digits + 1
+pointed_short d digits = elim (d == 0) as (λ b. length (if b then digits else take (length digits - d) digits ++ codes "." ++ drop (length digits - d) digits) ≤ length digits + 1) [
+  | true ↦ omega arith
+  | false ↦ simp (length-append, length-take, length-drop) (omega arith)
+]
+
+digits_stand : (value : ℤ) (decimals : ℕ) → ValidNumber value decimals → Stands symbol.Number (shape_digits value decimals)
 unfolding same_symbol
-digits_stand value decimals = refl
+digits_stand value decimals valid =
+    let digits : List ℕ = padded (decimals + 1) (decimal (unsigned_abs value)) in
+    let short : length (pointed decimals digits) ≤ NUMBER_BYTES = let most = valid.short in let fits = pointed_short decimals digits in omega arith in
+    let test : nat_le (length (pointed decimals digits)) NUMBER_BYTES ≡ true = is_within (length (pointed decimals digits)) short in
+    rw test refl
+  where
+    is_within : (n : ℕ) → n ≤ NUMBER_BYTES → nat_le n NUMBER_BYTES ≡ true
+    is_within n h = grind (arith, nat_tests)
 
 digits_value : (value : ℤ) (decimals : ℕ) → ValidNumber value decimals → Pointed (unsigned_abs value) decimals (shape_digits value decimals).slice
 digits_value value decimals valid = pointed_is (unsigned_abs value) decimals (padded (decimals + 1) (decimal (unsigned_abs value))) (digits_are (unsigned_abs value) decimals valid.small)
@@ -71,14 +85,14 @@ unfolding shapes_number
 number_read (pos m) decimals valid =
     shaped IsLiteral _ _ _ (plain_shapes m decimals) (left Plain Others _ (shape_digits (pos m) decimals ∷ [])
     (bind (Is (is symbol.Number)) (λ n next. next (literal.Number (pos (magnitude n)) (decimals_len n.slice))) (λ t. shape_of t ≡ shape_digits (pos m) decimals) _ (shape_digits (pos m) decimals ∷ []) []
-    (symbol_token symbol.Number (shape_digits (pos m) decimals) (digits_stand (pos m) decimals))
+    (symbol_token symbol.Number (shape_digits (pos m) decimals) (digits_stand (pos m) decimals valid))
     (λ t e. pure _ (literal.Number (pos (magnitude t)) (decimals_len t.slice)) (number_of (pos m) decimals valid t e (λ z. z)))))
 number_read (negsuc m) decimals valid =
     right Plain Others _ (sign symbol.Minus ∷ shape_digits (negsuc m) decimals ∷ [])
     (left Negative Words _ (sign symbol.Minus ∷ shape_digits (negsuc m) decimals ∷ [])
     (behind symbol.Minus (sign symbol.Minus) stands_minus (λ _ next. Is (is symbol.Number) (λ n. next (literal.Number (neg_ℤ (pos (magnitude n))) (decimals_len n.slice)))) _ (shape_digits (negsuc m) decimals ∷ [])
     (λ _ _. bind (Is (is symbol.Number)) (λ n next. next (literal.Number (neg_ℤ (pos (magnitude n))) (decimals_len n.slice))) (λ t. shape_of t ≡ shape_digits (negsuc m) decimals) _ (shape_digits (negsuc m) decimals ∷ []) []
-    (symbol_token symbol.Number (shape_digits (negsuc m) decimals) (digits_stand (negsuc m) decimals))
+    (symbol_token symbol.Number (shape_digits (negsuc m) decimals) (digits_stand (negsuc m) decimals valid))
     (λ t e. pure _ (literal.Number (neg_ℤ (pos (magnitude t))) (decimals_len t.slice)) (number_of (negsuc m) decimals valid t e neg_ℤ)))))
 
 abbrev text_shape : List ℕ → Shape

@@ -5,22 +5,24 @@ use Rattle.std.proofs.lemmas.List.{append-nil}
 use Rattle.pm_lexer.specs.declared.symbol.Symbol.{Symbol}
 use Rattle.pm_lexer.specs.declared.symbol.Symbol.TheVariants as symbol
 use Rattle.pm_lexer.specs.Symbol.{is}
-use Rattle.pm_grammar.specs.Language.{Lang, Is, IsFurther, IsList, never}
-use Rattle.pm_syntax.specs.declared.tree.PlacedName.{PlacedName}
+use Rattle.pm_grammar.specs.Language.{Lang, Is, IsFurther, IsList, IsOptional, never}
+use Rattle.pm_grammar.specs.declared.names.PlacedName.{PlacedName}
 use Rattle.pm_syntax.specs.declared.tree.ColumnName.{ColumnName}
 use Rattle.pm_syntax.specs.declared.tree.Expr.{Expr}
 use Rattle.pm_syntax.specs.declared.tree.Item.{Item}
 use Rattle.pm_syntax.specs.declared.tree.Items.{Items}
 use Rattle.pm_syntax.specs.declared.tree.Items.TheVariants as items
 use Rattle.pm_syntax.specs.declared.tree.Source.{Source}
+use Rattle.pm_syntax.specs.declared.tree.Link.{Link}
+use Rattle.pm_syntax.specs.declared.tree.Link.TheVariants as link
 use Rattle.pm_syntax.specs.declared.tree.Test.{Test}
 use Rattle.pm_syntax.specs.declared.tree.OrderItem.{OrderItem}
-use Rattle.pm_syntax.specs.Grammar.{IsName, IsColumn, IsExpr, IsGiven, IsItem, IsItems, IsCondition, IsJoin, IsOn, IsSource, IsSources, IsFilter, IsGroups, IsHaving, IsDirection, IsKey, IsOrders}
+use Rattle.pm_syntax.specs.Grammar.{IsName, IsColumn, IsExpr, IsGiven, IsItem, IsItems, IsCondition, IsLink, IsJoinCondition, IsOn, is_left, IsSource, IsSources, IsFilter, IsGroups, IsHaving, IsDirection, IsKey, IsOrders}
 use Rattle.pm_canonical.proofs.Shapes.{Shape, sign, word, between, shape_name, shapes_column, shapes_expr, shapes_given, shapes_item, shapes_items, shapes_source, shapes_further, shapes_sources, shapes_test, shapes_condition, shapes_list, shapes_key}
-use Rattle.pm_canonical.specs.Same.{unplaced_option, unplaced_name, unplaced_column, unplaced_expr, unplaced_item, unplaced_items, unplaced_test, unplaced_source, unplaced_key}
+use Rattle.pm_syntax.specs.Same.{unplaced_option, unplaced_name, unplaced_column, unplaced_expr, unplaced_item, unplaced_items, unplaced_test, unplaced_source, unplaced_key}
 use Rattle.pm_canonical.proofs.Valid.{Where, ValidList, ValidPart, ValidColumn, ValidExpr, ValidItem, ValidItems, ValidSource, Unjoined, Fits, whole}
 use Rattle.pm_canonical.proofs.Combinators.{Reading, Stands, Entry, each, pure, shaped, better, mapped, left, right, bind, behind, given, more_read, list_of}
-use Rattle.pm_canonical.proofs.Standing.{stands_star, stands_comma, stands_join, stands_on, stands_where, stands_group, stands_by, stands_having, stands_order, stands_desc}
+use Rattle.pm_canonical.proofs.Standing.{stands_star, stands_comma, stands_join, stands_left, stands_on, stands_where, stands_group, stands_by, stands_having, stands_order, stands_desc}
 use Rattle.pm_canonical.proofs.NameReadings.{name_read, column_read, expr_read, given_read}
 use Rattle.pm_canonical.proofs.LeafReadings.{SameTest}
 use Rattle.pm_canonical.proofs.TestReadings.{fits_read}
@@ -83,65 +85,91 @@ items_read (items.List list) valid =
     (λ r e. ap (λ x. items.List x) e))
 
 -- a source by its parts
-source_same : (table x : PlacedName) (alias y : Option PlacedName) (on z : Option Test) → SameName table x → SameGiven alias y → SameCondition on z
-    → SameSource (record { table = table; alias = alias; on = on }) (record { table = x; alias = y; on = z })
-source_same table x alias y on z e f g =
-    ap (λ a. record { table = a; alias = unplaced_option unplaced_name y; on = unplaced_option unplaced_test z }) e
-    ∙ ap (λ a. record { table = unplaced_name table; alias = a; on = unplaced_option unplaced_test z }) f
-    ∙ ap (λ a. record { table = unplaced_name table; alias = unplaced_option unplaced_name alias; on = a }) g
+abbrev made : Bool → PlacedName → Option PlacedName → Option Test → Source
+made left table alias on = record { table = table; alias = alias; on = on; left = left }
 
-source_with : (joined : Bool) (table : PlacedName) (alias : Option PlacedName) (on : Option Test) (s : List Shape) → Reading (IsOn 32 never joined) (SameCondition on) s
-    → Reading (IsSource 32 never joined) (SameSource (record { table = table; alias = alias; on = on })) (shape_name table.text ∷ shapes_given alias ++ s)
-source_with joined table alias on s p =
-    bind IsName (λ x next. IsGiven (λ y. IsOn 32 never joined (λ z. next (record { table = x; alias = y; on = z })))) (SameName table) _ (shape_name table.text ∷ []) (shapes_given alias ++ s) (name_read table)
-    (λ x e. bind IsGiven (λ y next. IsOn 32 never joined (λ z. next (record { table = x; alias = y; on = z }))) (SameGiven alias) _ (shapes_given alias) s (given_read alias)
-    (λ y f. mapped (IsOn 32 never joined) (λ z. record { table = x; alias = y; on = z }) (SameCondition on) _ s p (λ z g. source_same table x alias y on z e f g)))
+source_same : (left : Bool) (table x : PlacedName) (alias y : Option PlacedName) (on z : Option Test) → SameName table x → SameGiven alias y → SameCondition on z → SameSource (made left table alias on) (made left x y z)
+source_same left table x alias y on z e f g =
+    ap (λ a. record { table = a; alias = unplaced_option unplaced_name y; on = unplaced_option unplaced_test z; left = left }) e
+    ∙ ap (λ a. record { table = unplaced_name table; alias = a; on = unplaced_option unplaced_test z; left = left }) f
+    ∙ ap (λ a. record { table = unplaced_name table; alias = unplaced_option unplaced_name alias; on = a; left = left }) g
 
-source_alone : (table : PlacedName) (alias : Option PlacedName) → Reading (IsSource 32 never false) (SameSource (record { table = table; alias = alias; on = None })) (shape_name table.text ∷ shapes_given alias)
-source_alone table alias = shaped _ _ _ _ (append-nil (shape_name table.text ∷ shapes_given alias)) (source_with false table alias None [] (pure (SameCondition None) None refl))
+source_with : (l : Link) (table : PlacedName) (alias : Option PlacedName) (on : Option Test) (s : List Shape) → Reading (IsOn 32 never l) (SameCondition on) s
+    → Reading (IsSource 32 never l) (SameSource (made (is_left l) table alias on)) (shape_name table.text ∷ shapes_given alias ++ s)
+source_with l table alias on s p =
+    bind IsName (λ x next. IsGiven (λ y. IsOn 32 never l (λ z. next (made (is_left l) x y z)))) (SameName table) _ (shape_name table.text ∷ []) (shapes_given alias ++ s) (name_read table)
+    (λ x e. bind IsGiven (λ y next. IsOn 32 never l (λ z. next (made (is_left l) x y z))) (SameGiven alias) _ (shapes_given alias) s (given_read alias)
+    (λ y f. mapped (IsOn 32 never l) (λ z. made (is_left l) x y z) (SameCondition on) _ s p (λ z g. source_same (is_left l) table x alias y on z e f g)))
 
-source_joined : (table : PlacedName) (alias : Option PlacedName) (on : Test) → Fits false whole 32 on
-    → Reading (IsSource 32 never true) (SameSource (record { table = table; alias = alias; on = Some on })) (shape_name table.text ∷ shapes_given alias ++ word symbol.On ∷ shapes_test on)
-source_joined table alias on fits =
-    source_with true table alias (Some on) (word symbol.On ∷ shapes_test on)
-    (behind symbol.On (word symbol.On) stands_on (λ _ next. IsCondition false 32 never (λ cond. next (Some cond))) (SameCondition (Some on)) (shapes_test on)
-    (λ _ _. mapped (IsCondition false 32 never) (λ cond. Some cond) (SameTest on) (SameCondition (Some on)) (shapes_test on) (fits_read false whole 32 on fits) (λ y e. ap (λ x. Some x) e)))
+source_alone : (table : PlacedName) (alias : Option PlacedName) → Reading (IsSource 32 never link.Comma) (SameSource (made false table alias None)) (shape_name table.text ∷ shapes_given alias)
+source_alone table alias = shaped _ _ _ _ (append-nil (shape_name table.text ∷ shapes_given alias)) (source_with link.Comma table alias None [] (pure (SameCondition None) None refl))
 
--- the first source, and those behind it
-first_read : (s : Source) → s.on ≡ None → Reading (IsSource 32 never false) (SameSource s) (shapes_source s)
+join_condition : (on : Test) → Fits false whole 32 on → Reading (IsJoinCondition 32 never) (SameCondition (Some on)) (word symbol.On ∷ shapes_test on)
+join_condition on fits =
+    behind symbol.On (word symbol.On) stands_on (λ _ next. IsCondition false 32 never (λ cond. next (Some cond))) (SameCondition (Some on)) (shapes_test on)
+    (λ _ _. mapped (IsCondition false 32 never) (λ cond. Some cond) (SameTest on) (SameCondition (Some on)) (shapes_test on) (fits_read false whole 32 on fits) (λ y e. ap (λ x. Some x) e))
+
+abbrev joined_shapes : PlacedName → Option PlacedName → Test → List Shape
+joined_shapes table alias on = shape_name table.text ∷ shapes_given alias ++ word symbol.On ∷ shapes_test on
+
+-- the first source, and those after it
+first_read : (s : Source) → s.on ≡ None → s.left ≡ false → Reading (IsSource 32 never link.Comma) (SameSource s) (shapes_source s)
 unfolding shapes_source
-first_read s alone =
-    better (IsSource 32 never false) (SameSource (record { table = s.table; alias = s.alias; on = None })) (SameSource s) (shape_name s.table.text ∷ shapes_given s.alias)
-    (λ y e. e ∙ ap (λ x. unplaced_source (record { table = s.table; alias = s.alias; on = x })) (sym alone)) (source_alone s.table s.alias)
+first_read s alone inner =
+    better (IsSource 32 never link.Comma) (SameSource (made false s.table s.alias None)) (SameSource s) (shape_name s.table.text ∷ shapes_given s.alias)
+    (λ y e. e ∙ ap (λ x. unplaced_source (made false s.table s.alias x)) (sym alone) ∙ ap (λ x. unplaced_source (made x s.table s.alias s.on)) (sym inner)) (source_alone s.table s.alias)
 
 abbrev Commas : Type 0 → Lang Source
-Commas C next = Is (is symbol.Comma) (λ _ ts. C × IsSource 32 never false next ts)
+Commas C next = Is (is symbol.Comma) (λ _ ts. C × IsSource 32 never link.Comma next ts)
 
-abbrev Joins : Type 0 → Lang Source
-Joins C next = Is (is symbol.Join) (λ _ ts. C × IsSource 32 never true next ts)
+abbrev Joins : Link → Type 0 → Lang Source
+Joins l C next = Is (is symbol.Join) (λ _ ts. C × IsSource 32 never l next ts)
 
 abbrev Inners : Type 0 → Lang Source
-Inners C next = Is (is symbol.Inner) (λ _. Is (is symbol.Join) (λ _ ts. C × IsSource 32 never true next ts))
+Inners C next = Is (is symbol.Inner) (λ _. Joins link.Join C next)
 
-further_with : (table : PlacedName) (alias : Option PlacedName) (on : Option Test) → Where (Fits false whole 32) on → Entry IsJoin (IsSource 32 never) (SameSource (record { table = table; alias = alias; on = on })) (shapes_further on (record { table = table; alias = alias; on = on }))
+abbrev Outers : Type 0 → Lang Source
+Outers C next = IsOptional (is symbol.Outer) (λ _. Joins link.LeftJoin C next)
+
+abbrev Lefts : Type 0 → Lang Source
+Lefts C next = Is (is symbol.Left) (λ _. Outers C next)
+
+join_read : (l : Link) (C : Type 0) → C → (table : PlacedName) (alias : Option PlacedName) (on : Test) → Reading (IsOn 32 never l) (SameCondition (Some on)) (word symbol.On ∷ shapes_test on)
+    → Reading (Joins l C) (SameSource (made (is_left l) table alias (Some on))) (word symbol.Join ∷ joined_shapes table alias on)
+join_read l C c table alias on p =
+    behind symbol.Join (word symbol.Join) stands_join (λ _ next ts. C × IsSource 32 never l next ts) _ (joined_shapes table alias on)
+    (λ _ _. given (IsSource 32 never l) _ _ C c (source_with l table alias (Some on) (word symbol.On ∷ shapes_test on) p))
+
+outer_read : (C : Type 0) → C → (table : PlacedName) (alias : Option PlacedName) (on : Test) → Fits false whole 32 on → Reading (Outers C) (SameSource (made true table alias (Some on))) (word symbol.Join ∷ joined_shapes table alias on)
+outer_read C c table alias on fits =
+    bind (IsOptional (is symbol.Outer)) (λ _. Joins link.LeftJoin C) (λ _. Unit {0}) (SameSource (made true table alias (Some on))) [] (word symbol.Join ∷ joined_shapes table alias on)
+    (left (λ next. next None) (λ next. Is (is symbol.Outer) (λ t. next (Some t))) (λ _. Unit {0}) [] (pure (λ _. Unit {0}) None tt))
+    (λ _ _. join_read link.LeftJoin C c table alias on (join_condition on fits))
+
+further_with : (table : PlacedName) (alias : Option PlacedName) (on : Option Test) (outer : Bool) → Where (Fits false whole 32) on → (on ≡ None → outer ≡ false)
+    → Entry IsLink (IsSource 32 never) (SameSource (made outer table alias on)) (shapes_further on (made outer table alias on))
 unfolding shapes_source
-further_with table alias None fits C c =
-    left (Commas C) (λ next ts. Joins C next ts ⊎ Inners C next ts) _ (sign symbol.Comma ∷ shape_name table.text ∷ shapes_given alias)
-    (behind symbol.Comma (sign symbol.Comma) stands_comma (λ _ next ts. C × IsSource 32 never false next ts) _ (shape_name table.text ∷ shapes_given alias)
-    (λ _ _. given (IsSource 32 never false) _ _ C c (source_alone table alias)))
-further_with table alias (Some on) fits C c =
-    right (Commas C) (λ next ts. Joins C next ts ⊎ Inners C next ts) _ _ (left (Joins C) (Inners C) _ (word symbol.Join ∷ shape_name table.text ∷ shapes_given alias ++ word symbol.On ∷ shapes_test on)
-    (behind symbol.Join (word symbol.Join) stands_join (λ _ next ts. C × IsSource 32 never true next ts) _ (shape_name table.text ∷ shapes_given alias ++ word symbol.On ∷ shapes_test on)
-    (λ _ _. given (IsSource 32 never true) _ _ C c (source_joined table alias on fits))))
+further_with table alias None true fits unjoined C c = absurd (let bad = unjoined refl in cc bad)
+further_with table alias None false fits unjoined C c =
+    left (Commas C) (λ next ts. Joins link.Join C next ts ⊎ Inners C next ts ⊎ Lefts C next ts) _ (sign symbol.Comma ∷ shape_name table.text ∷ shapes_given alias)
+    (behind symbol.Comma (sign symbol.Comma) stands_comma (λ _ next ts. C × IsSource 32 never link.Comma next ts) _ (shape_name table.text ∷ shapes_given alias)
+    (λ _ _. given (IsSource 32 never link.Comma) _ _ C c (source_alone table alias)))
+further_with table alias (Some on) false fits unjoined C c =
+    right (Commas C) (λ next ts. Joins link.Join C next ts ⊎ Inners C next ts ⊎ Lefts C next ts) _ _
+    (left (Joins link.Join C) (λ next ts. Inners C next ts ⊎ Lefts C next ts) _ (word symbol.Join ∷ joined_shapes table alias on) (join_read link.Join C c table alias on (join_condition on fits)))
+further_with table alias (Some on) true fits unjoined C c =
+    right (Commas C) (λ next ts. Joins link.Join C next ts ⊎ Inners C next ts ⊎ Lefts C next ts) _ _
+    (right (Joins link.Join C) (λ next ts. Inners C next ts ⊎ Lefts C next ts) _ _ (right (Inners C) (Lefts C) _ (word symbol.Left ∷ word symbol.Join ∷ joined_shapes table alias on)
+    (behind symbol.Left (word symbol.Left) stands_left (λ _. Outers C) _ (word symbol.Join ∷ joined_shapes table alias on) (λ _ _. outer_read C c table alias on fits))))
 
 pub sources_read : (sources : List Source) → ValidList 64 ValidSource sources → Unjoined sources → Reading (IsSources 32 never) (SameSources sources) (shapes_sources sources)
 sources_read [] valid alone = let some = valid.some in absurd (omega arith)
 sources_read (first ∷ others) valid alone =
-    bind (IsSource 32 never false) (λ x. IsFurther never 64 IsJoin (IsSource 32 never) (x ∷ [])) (SameSource first) (SameSources (first ∷ others)) (shapes_source first) (flat_map (λ s. shapes_further s.on s) others) (first_read first alone)
+    bind (IsSource 32 never link.Comma) (λ x. IsFurther never 64 IsLink (IsSource 32 never) (x ∷ [])) (SameSource first) (SameSources (first ∷ others)) (shapes_source first) (flat_map (λ s. shapes_further s.on s) others) (first_read first alone (valid.each.0.unjoined alone))
     (λ x same front e.
     let most = valid.within in
-    let r = more_read 64 IsJoin (IsSource 32 never) unplaced_source (λ s. shapes_further s.on s) (x ∷ []) others
-    (each ValidSource (λ s. Entry IsJoin (IsSource 32 never) (SameSource s) (shapes_further s.on s)) (λ s v. further_with s.table s.alias s.on v.on) others valid.each.1)
+    let r = more_read 64 IsLink (IsSource 32 never) unplaced_source (λ s. shapes_further s.on s) (x ∷ []) others
+    (each ValidSource (λ s. Entry IsLink (IsSource 32 never) (SameSource s) (shapes_further s.on s)) (λ s v. further_with s.table s.alias s.on s.left v.on v.unjoined) others valid.each.1)
     (omega arith) (length others) refl (unplaced_source first ∷ []) (ap (λ y. y ∷ []) same) front e in
     record { value = r.value; good = r.good; reads = λ next w n. (length others, r.reads next w n) })
 

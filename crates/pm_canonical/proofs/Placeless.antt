@@ -1,7 +1,7 @@
 -- Canonical text says nothing of places.
 use Rattle.std.proofs.Common.{◌≡◌, ℕ, List, [], ◌∷◌, ◌++◌, map, Option, Some, None, codes, refl, sym, ◌∙◌, ap, subst}
 use Rattle.std.specs.List.{flat_map}
-use Rattle.pm_syntax.specs.declared.tree.PlacedName.{PlacedName}
+use Rattle.pm_grammar.specs.declared.names.PlacedName.{PlacedName}
 use Rattle.pm_syntax.specs.declared.tree.ColumnName.{ColumnName}
 use Rattle.pm_syntax.specs.declared.tree.Expr.{Expr}
 use Rattle.pm_syntax.specs.declared.tree.Expr.TheVariants as expr
@@ -18,8 +18,8 @@ use Rattle.pm_syntax.specs.declared.tree.Test.TheOpen as layer
 use Rattle.pm_syntax.specs.declared.tree.Test.TheFolds.{ind-Test}
 use Rattle.pm_syntax.specs.declared.tree.OrderItem.{OrderItem}
 use Rattle.pm_syntax.specs.declared.tree.Select.{Select}
-use Rattle.pm_canonical.specs.Canon.{joined, canon_alias, canon_column, canon_expr, canon_atom, canon_layer, text_of, canon_test, canon_given, canon_item, canon_items, canon_source, canon_further, canon_sources, canon_key, canon_condition, canon_list, canon}
-use Rattle.pm_canonical.specs.Same.{unplaced_option, unplaced_name, unplaced_column, unplaced_expr, unplaced_item, unplaced_items, unplaced_atom, unplaced_layer, unplaced_test, unplaced_source, unplaced_key, unplaced, SameTree}
+use Rattle.pm_canonical.specs.Canon.{joined, canon_alias, canon_column, canon_expr, canon_atom, canon_layer, text_of, canon_test, canon_given, canon_item, canon_items, canon_source, join_words, canon_further, canon_sources, canon_key, canon_condition, canon_list, canon}
+use Rattle.pm_syntax.specs.Same.{unplaced_option, unplaced_name, unplaced_column, unplaced_expr, unplaced_item, unplaced_items, unplaced_atom, unplaced_layer, unplaced_test, unplaced_source, unplaced_key, unplaced, SameStatement}
 use Rattle.pm_canonical.proofs.Folds.{fold_any, fold_all, fold_not, fold_compare, fold_null, fold_one_of, fold_between}
 
 map_with : {A B : Type 0} (f : A → B) (u : A → A) → ((x : A) → f (u x) ≡ f x) → (xs : List A) → map f (map u xs) ≡ map f xs
@@ -107,7 +107,7 @@ placeless_source s = rw (placeless_given s.alias) refl
 
 placeless_further : (on : Option Test) (s : Source) → canon_further (unplaced_option unplaced_test on) (unplaced_source s) ≡ canon_further on s
 placeless_further None s = ap (λ t. codes ", " ++ t) (placeless_source s)
-placeless_further (Some on) s = ap (λ t. codes " JOIN " ++ t ++ codes " ON " ++ canon_test (unplaced_test on)) (placeless_source s) ∙ ap (λ t. codes " JOIN " ++ canon_source s ++ codes " ON " ++ t.bytes) (placeless_test on)
+placeless_further (Some on) s = ap (λ t. join_words s.left ++ t ++ codes " ON " ++ canon_test (unplaced_test on)) (placeless_source s) ∙ ap (λ t. join_words s.left ++ canon_source s ++ codes " ON " ++ t.bytes) (placeless_test on)
 
 placeless_more : (sources : List Source) → flat_map (λ s. canon_further s.on s) (map unplaced_source sources) ≡ flat_map (λ s. canon_further s.on s) sources
 placeless_more [] = refl
@@ -137,5 +137,5 @@ placeless s =
       placeless_list (codes " ORDER BY ") canon_key unplaced_key placeless_key s.orders,
     ) refl
 
-pub same_text : (a b : Select) → SameTree a b → canon a ≡ canon b
+pub same_text : (a b : Select) → SameStatement a b → canon a ≡ canon b
 same_text a b e = sym (placeless a) ∙ ap canon e ∙ placeless b

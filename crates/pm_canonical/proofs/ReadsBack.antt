@@ -11,10 +11,11 @@ use Rattle.pm_syntax.specs.declared.tree.Source.{Source}
 use Rattle.pm_syntax.specs.declared.tree.Test.{Test}
 use Rattle.pm_syntax.specs.declared.tree.OrderItem.{OrderItem}
 use Rattle.pm_syntax.specs.declared.tree.Select.{Select}
-use Rattle.pm_syntax.specs.Grammar.{IsOptional, IsItems, IsSources, IsFilter, IsGroups, IsHaving, IsOrders, IsSelect}
+use Rattle.pm_grammar.specs.Language.{IsOptional}
+use Rattle.pm_syntax.specs.Grammar.{IsItems, IsSources, IsFilter, IsGroups, IsHaving, IsOrders, IsSelect}
 use Rattle.pm_syntax.specs.Statement.{Reads}
 use Rattle.pm_canonical.proofs.Shapes.{Shape, shape_of, end_shape, word, shapes_column, shapes_items, shapes_sources, shapes_condition, shapes_list, shapes_key, shapes_select}
-use Rattle.pm_canonical.specs.Same.{unplaced, SameTree}
+use Rattle.pm_syntax.specs.Same.{unplaced, SameStatement}
 use Rattle.pm_canonical.proofs.Valid.{Valid}
 use Rattle.pm_canonical.proofs.Combinators.{Whole, Reading, Stands, passes, pure, left, bind, behind}
 use Rattle.pm_canonical.proofs.Standing.{stands_select, stands_distinct, stands_from}
@@ -100,7 +101,7 @@ whole_read s valid =
 pub record Again (tokens : List Token) (s : Select) : Type 0 where
   pub select : Select
   pub reads : Reads tokens select
-  pub same : SameTree s select
+  pub same : SameStatement s select
 
 pub reads_back : (s : Select) → Valid s → (tokens : List Token) → map shape_of tokens ≡ shapes_select s ++ end_shape ∷ [] → Again tokens s
 reads_back s valid tokens e =

@@ -7,7 +7,7 @@ use Rattle.pm_lexer.specs.declared.token.TokenKind.TheVariants as kind
 use Rattle.pm_lexer.specs.declared.symbol.Symbol.{Symbol}
 use Rattle.pm_lexer.specs.declared.symbol.Symbol.TheVariants as symbol
 use Rattle.pm_lexer.specs.Symbol.{spelling}
-use Rattle.pm_syntax.specs.declared.tree.PlacedName.{PlacedName}
+use Rattle.pm_grammar.specs.declared.names.PlacedName.{PlacedName}
 use Rattle.pm_syntax.specs.declared.tree.ColumnName.{ColumnName}
 use Rattle.pm_syntax.specs.declared.tree.Func.{Func}
 use Rattle.pm_syntax.specs.declared.tree.Expr.{Expr}
@@ -149,10 +149,13 @@ shapes_items (items.List list) = between (sign symbol.Comma) (map shapes_item li
 unfoldable pub shapes_source : Source → List Shape
 shapes_source source = shape_name source.table.text ∷ shapes_given source.alias
 
--- a source behind others
+abbrev pub shapes_join : Bool → List Shape
+shapes_join left = if left then word symbol.Left ∷ word symbol.Join ∷ [] else word symbol.Join ∷ []
+
+-- a source after others
 abbrev pub shapes_further : Option Test → Source → List Shape
 shapes_further None source = sign symbol.Comma ∷ shapes_source source
-shapes_further (Some on) source = word symbol.Join ∷ shapes_source source ++ word symbol.On ∷ shapes_test on
+shapes_further (Some on) source = shapes_join source.left ++ (shapes_source source ++ word symbol.On ∷ shapes_test on)
 
 abbrev pub shapes_sources : List Source → List Shape
 shapes_sources [] = []

@@ -5,7 +5,7 @@ use Rattle.std.proofs.lemmas.List.{append_assoc, append-nil}
 use Rattle.pm_lexer.specs.declared.token.Token.{Token}
 use Rattle.pm_lexer.specs.declared.symbol.Symbol.TheVariants as symbol
 use Rattle.pm_lexer.specs.Tokens.{tokens_of}
-use Rattle.pm_syntax.specs.declared.tree.PlacedName.{PlacedName}
+use Rattle.pm_grammar.specs.declared.names.PlacedName.{PlacedName}
 use Rattle.pm_syntax.specs.declared.tree.Item.{Item}
 use Rattle.pm_syntax.specs.declared.tree.Items.{Items}
 use Rattle.pm_syntax.specs.declared.tree.Items.TheVariants as items
@@ -13,12 +13,12 @@ use Rattle.pm_syntax.specs.declared.tree.Source.{Source}
 use Rattle.pm_syntax.specs.declared.tree.Test.{Test}
 use Rattle.pm_syntax.specs.declared.tree.OrderItem.{OrderItem}
 use Rattle.pm_syntax.specs.declared.tree.Select.{Select}
-use Rattle.pm_canonical.specs.Canon.{joined, canon_column, canon_expr, canon_test, canon_given, canon_item, canon_items, canon_source, canon_further, canon_sources, canon_key, canon_condition, canon_list, canon}
-use Rattle.pm_canonical.proofs.Shapes.{Shape, shape_of, end_shape, word, sign, between, shapes_column, shapes_expr, shapes_given, shapes_item, shapes_items, shapes_source, shapes_further, shapes_sources, shapes_key, shapes_condition, shapes_list, shapes_select}
+use Rattle.pm_canonical.specs.Canon.{joined, canon_column, canon_expr, canon_test, canon_given, canon_item, canon_items, canon_source, join_words, canon_further, canon_sources, canon_key, canon_condition, canon_list, canon}
+use Rattle.pm_canonical.proofs.Shapes.{Shape, shape_of, end_shape, word, sign, between, shapes_column, shapes_expr, shapes_given, shapes_item, shapes_items, shapes_source, shapes_join, shapes_further, shapes_sources, shapes_key, shapes_condition, shapes_list, shapes_select}
 use Rattle.pm_canonical.proofs.Valid.{Every, Where, ValidPlaced, ValidColumn, ValidExpr, ValidItem, ValidItems, ValidSource, Role, Fits, Valid}
 use Rattle.pm_canonical.proofs.Runs.{Follows, follows_append}
 use Rattle.pm_canonical.proofs.Spelling.{lexes_end, Spells, any, ends, spells_none, spells_both, spells_then, spells_after}
-use Rattle.pm_canonical.proofs.Wording.{spells_select, spells_distinct, spells_from, spells_join, spells_on, spells_where, spells_group, spells_having, spells_order, spells_desc, spells_as, spells_star, spells_comma}
+use Rattle.pm_canonical.proofs.Wording.{spells_select, spells_distinct, spells_from, spells_join, spells_left_join, spells_on, spells_where, spells_group, spells_having, spells_order, spells_desc, spells_as, spells_star, spells_comma}
 use Rattle.pm_canonical.proofs.Spelled.{spells_any, ends_early, spells_name, spells_column, spells_expr, spells_joined, every_spells}
 use Rattle.pm_canonical.proofs.SpelledTests.{four, spells_fits}
 
@@ -52,15 +52,23 @@ spells_source : (source : Source) → ValidSource source → Spells ends (canon_
 unfolding canon_source shapes_source
 spells_source source valid = spells_then (ends_early (spells_name source.table.text valid.table)) (spells_given source.alias valid.alias) (given_first source.alias)
 
+spells_join_words : (left : Bool) → Spells any (join_words left) (shapes_join left)
+spells_join_words true = spells_left_join
+spells_join_words false = spells_join
+
 spells_further : (on : Option Test) (source : Source) → ValidSource source → Where (Fits false Role.whole 32) on → Spells ends (canon_further on source) (shapes_further on source)
 spells_further None source valid fits = spells_after spells_comma (spells_source source valid)
 spells_further (Some on) source valid fits =
-    rw (four (codes " JOIN ") (canon_source source) (codes " ON ") (canon_test on))
-    (spells_after spells_join (spells_both (spells_source source valid) (spells_after spells_on (spells_fits false Role.whole 32 on fits)) (λ rest after. refl)))
+    rw (four (join_words source.left) (canon_source source) (codes " ON ") (canon_test on))
+    (spells_after (spells_join_words source.left) (spells_both (spells_source source valid) (spells_after spells_on (spells_fits false Role.whole 32 on fits)) (λ rest after. refl)))
 
 further_first : (on : Option Test) (source : Source) (rest : List ℕ) → Follows ends (canon_further on source ++ rest)
 further_first None source rest = refl
-further_first (Some on) source rest = refl
+further_first (Some on) source rest = join_first source.left
+  where
+    join_first : (left : Bool) → Follows ends ((join_words left ++ canon_source source ++ codes " ON " ++ canon_test on) ++ rest)
+    join_first true = refl
+    join_first false = refl
 
 more_first : (sources : List Source) → Follows ends (flat_map (λ s. canon_further s.on s) sources)
 more_first [] = tt

@@ -21,6 +21,10 @@ pub stands_join : Stands symbol.Join (word symbol.Join)
 unfolding same_symbol reserved_word
 stands_join = refl
 
+pub stands_left : Stands symbol.Left (word symbol.Left)
+unfolding same_symbol reserved_word
+stands_left = refl
+
 pub stands_on : Stands symbol.On (word symbol.On)
 unfolding same_symbol reserved_word
 stands_on = refl

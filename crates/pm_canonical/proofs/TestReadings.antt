@@ -8,7 +8,7 @@ use Rattle.pm_syntax.specs.declared.tree.Test.{Test}
 use Rattle.pm_syntax.specs.declared.tree.Test.TheVariants as test
 use Rattle.pm_syntax.specs.Grammar.{IsTest, IsPart, IsPartAnd, IsCondition, all_of, any_of}
 use Rattle.pm_canonical.proofs.Shapes.{Shape, Phrase, sign, word, between, member_shapes, in_parens, list_word, shapes_layer, phrase_of}
-use Rattle.pm_canonical.specs.Same.{unplaced_layer, unplaced_test}
+use Rattle.pm_syntax.specs.Same.{unplaced_layer, unplaced_test}
 use Rattle.pm_canonical.proofs.Valid.{ValidLeaf, Role, whole, in_or, in_and, Fits, leaf, negated, any_list, any_in_or, any_in_and, all_list, all_in_or, all_in_and, FitsEach, no_members, member}
 use Rattle.pm_canonical.proofs.Combinators.{Reading, Each, shaped, mapped, left, right, bind, behind, pure, list_read}
 use Rattle.pm_canonical.proofs.Standing.{stands_not, stands_open, stands_close, stands_and, stands_or}

@@ -1,7 +1,7 @@
 -- The trees that reading gives.
 use Rattle.std.proofs.Common.{◌≡◌, ◌≤◌, ◌<◌, ◌+◌, ◌^◌, ℕ, suc, ℤ, Bool, true, false, List, [], ◌∷◌, length, Option, Some, None, decimal, unsigned_abs}
 use Rattle.std.specs.Char.{is_ascii_control}
-use Rattle.pm_syntax.specs.declared.tree.PlacedName.{PlacedName}
+use Rattle.pm_grammar.specs.declared.names.PlacedName.{PlacedName}
 use Rattle.pm_syntax.specs.declared.tree.ColumnName.{ColumnName}
 use Rattle.pm_syntax.specs.declared.tree.Expr.{Expr}
 use Rattle.pm_syntax.specs.declared.tree.Expr.TheVariants as expr
@@ -120,6 +120,7 @@ pub record ValidSource (source : Source) : Type 0 where
   pub table : ValidPlaced source.table
   pub alias : Where ValidPlaced source.alias
   pub on : Where (Fits false whole 32) source.on
+  pub unjoined : source.on ≡ None → source.left ≡ false
 
 abbrev pub Unjoined : List Source → Type 0
 Unjoined [] = Unit {0}

@@ -12,8 +12,10 @@ use Rattle.pm_syntax.specs.declared.tree.Atom.{Atom}
 use Rattle.pm_syntax.specs.declared.tree.Atom.TheVariants as atom
 use Rattle.pm_values.specs.declared.condition.Comparison.TheVariants as comparison
 use Rattle.pm_syntax.specs.declared.tree.Test.TheVariants as test
-use Rattle.pm_syntax.specs.Terminals.{named, func_of, magnitude, comparison_of, compares}
-use Rattle.pm_syntax.specs.Grammar.{IsName, IsColumn, counts, IsCountAll, IsCall, IsExpr, IsLiteral, IsTerm, IsOperand, IsOptional, IsCompare, IsNullTest, IsIn, IsBetween, IsTest, IsGiven}
+use Rattle.pm_grammar.specs.Reading.{named}
+use Rattle.pm_syntax.specs.Terminals.{func_of, magnitude, comparison_of, compares}
+use Rattle.pm_grammar.specs.Language.{IsOptional}
+use Rattle.pm_syntax.specs.Grammar.{IsName, IsColumn, counts, IsCountAll, IsCall, IsExpr, IsLiteral, IsTerm, IsOperand, IsCompare, IsNullTest, IsIn, IsBetween, IsTest, IsGiven}
 use Rattle.pm_canonical.proofs.Valid.{Where, ValidList, ValidPlaced, ValidColumn, ValidExpr, ValidLiteral, ValidTerm, ValidAtom, ValidLeaf, compared, null_test, listed, ranged}
 use Rattle.pm_canonical.proofs.Formed.{IsFormed}
 use Rattle.pm_canonical.proofs.Sound.{Sound, sound, sound_token, sound_bind, sound_map, sound_behind, sound_or, sound_list}

@@ -10,10 +10,14 @@ use Rattle.pm_syntax.specs.declared.tree.ColumnName.{ColumnName}
 use Rattle.pm_syntax.specs.declared.tree.Items.{Items}
 use Rattle.pm_syntax.specs.declared.tree.Items.TheVariants as items
 use Rattle.pm_syntax.specs.declared.tree.Source.{Source}
+use Rattle.pm_syntax.specs.declared.tree.Link.{Link}
+use Rattle.pm_syntax.specs.declared.tree.Link.TheVariants as link
+use Rattle.pm_grammar.specs.declared.names.PlacedName.{PlacedName}
 use Rattle.pm_syntax.specs.declared.tree.Test.{Test}
 use Rattle.pm_syntax.specs.declared.tree.OrderItem.{OrderItem}
 use Rattle.pm_syntax.specs.declared.tree.Select.{Select}
-use Rattle.pm_syntax.specs.Grammar.{IsName, IsColumn, IsExpr, IsGiven, IsItem, IsItems, IsCondition, IsJoin, IsOn, IsSource, IsSources, IsFilter, IsGroups, IsHaving, IsDirection, IsKey, IsOrders, IsOptional, IsSelect}
+use Rattle.pm_grammar.specs.Language.{IsOptional}
+use Rattle.pm_syntax.specs.Grammar.{IsName, IsColumn, IsExpr, IsGiven, IsItem, IsItems, IsCondition, IsLink, IsJoinCondition, IsOn, is_left, IsSource, IsSources, IsFilter, IsGroups, IsHaving, IsDirection, IsKey, IsOrders, IsSelect}
 use Rattle.pm_syntax.specs.Statement.{Reads}
 use Rattle.pm_canonical.proofs.Combinators.{Whole}
 use Rattle.pm_canonical.proofs.Valid.{Every, Where, ValidList, ValidPart, ValidPlaced, ValidColumn, ValidExpr, ValidItem, ValidItems, ValidSource, Unjoined, Fits, whole, Valid}
@@ -37,33 +41,49 @@ sound_items =
     (sound_map (IsList never 64 IsItem (is symbol.Comma)) (λ list. items.List list) (ValidList 64 ValidItem) ValidItems (sound_list 64 IsItem (is symbol.Comma) ValidItem (omega arith) sound_item) (λ list v. v))
 
 -- sources: the first has no condition
-record ValidOn (joined : Bool) (on : Option Test) : Type 0 where
+record ValidOn (l : Link) (on : Option Test) : Type 0 where
   fits : Where (Fits false whole 32) on
-  alone : joined ≡ false → on ≡ None
+  alone : l ≡ link.Comma → on ≡ None
+  unjoined : on ≡ None → is_left l ≡ false
 
-sound_on : (joined : Bool) → Sound (IsOn 32 never joined) (ValidOn joined)
-sound_on false = sound (ValidOn false) None (record { fits = tt; alone = λ _. refl })
-sound_on true =
-    sound_behind (is symbol.On) (λ _ next. IsCondition false 32 never (λ cond. next (Some cond))) (ValidOn true)
-    (λ _ _ _. sound_map (IsCondition false 32 never) (λ cond. Some cond) (Fits false whole 32) (ValidOn true) (sound_condition false 32) (λ cond fits. record { fits = fits; alone = λ e. absurd (cc e) }))
+sound_condition_of : (l : Link) → (l ≡ link.Comma → ⊥) → Sound (IsJoinCondition 32 never) (ValidOn l)
+sound_condition_of l joins =
+    sound_behind (is symbol.On) (λ _ next. IsCondition false 32 never (λ cond. next (Some cond))) (ValidOn l)
+    (λ _ _ _. sound_map (IsCondition false 32 never) (λ cond. Some cond) (Fits false whole 32) (ValidOn l) (sound_condition false 32)
+    (λ cond fits. record { fits = fits; alone = λ e. absurd (joins e); unjoined = λ e. absurd (cc e) }))
 
-record ValidJoined (joined : Bool) (s : Source) : Type 0 where
+sound_on : (l : Link) → Sound (IsOn 32 never l) (ValidOn l)
+sound_on link.Comma = sound (ValidOn link.Comma) None (record { fits = tt; alone = λ _. refl; unjoined = λ _. refl })
+sound_on link.Join = sound_condition_of link.Join (λ e. cc e)
+sound_on link.LeftJoin = sound_condition_of link.LeftJoin (λ e. cc e)
+
+record ValidLinked (l : Link) (s : Source) : Type 0 where
   source : ValidSource s
-  alone : joined ≡ false → s.on ≡ None
+  alone : l ≡ link.Comma → s.on ≡ None
 
-sound_source : (joined : Bool) → Sound (IsSource 32 never joined) (ValidJoined joined)
-sound_source joined =
-    sound_bind IsName (λ table next. IsGiven (λ alias. IsOn 32 never joined (λ on. next (record { table = table; alias = alias; on = on })))) ValidPlaced (ValidJoined joined) sound_name
-    (λ table tv. sound_bind IsGiven (λ alias next. IsOn 32 never joined (λ on. next (record { table = table; alias = alias; on = on }))) (Where ValidPlaced) (ValidJoined joined) sound_given
-    (λ alias av. sound_map (IsOn 32 never joined) (λ on. record { table = table; alias = alias; on = on }) (ValidOn joined) (ValidJoined joined) (sound_on joined)
-    (λ on v. record { source = record { table = tv; alias = av; on = v.fits }; alone = v.alone })))
+abbrev made : Link → PlacedName → Option PlacedName → Option Test → Source
+made l table alias on = record { table = table; alias = alias; on = on; left = is_left l }
 
-sound_join : Sound IsJoin Nothing
-sound_join =
-    sound_or (λ next. Is (is symbol.Comma) (λ _. next false)) _ Nothing (sound_behind (is symbol.Comma) (λ _ next. next false) Nothing (λ _ _ _. sound Nothing false tt))
-    (sound_or (λ next. Is (is symbol.Join) (λ _. next true)) (λ next. Is (is symbol.Inner) (λ _. Is (is symbol.Join) (λ _. next true))) Nothing
-    (sound_behind (is symbol.Join) (λ _ next. next true) Nothing (λ _ _ _. sound Nothing true tt))
-    (sound_behind (is symbol.Inner) (λ _ next. Is (is symbol.Join) (λ _. next true)) Nothing (λ _ _ _. sound_behind (is symbol.Join) (λ _ next. next true) Nothing (λ _ _ _. sound Nothing true tt))))
+sound_source : (l : Link) → Sound (IsSource 32 never l) (ValidLinked l)
+sound_source l =
+    sound_bind IsName (λ table next. IsGiven (λ alias. IsOn 32 never l (λ on. next (made l table alias on)))) ValidPlaced (ValidLinked l) sound_name
+    (λ table tv. sound_bind IsGiven (λ alias next. IsOn 32 never l (λ on. next (made l table alias on))) (Where ValidPlaced) (ValidLinked l) sound_given
+    (λ alias av. sound_map (IsOn 32 never l) (λ on. made l table alias on) (ValidOn l) (ValidLinked l) (sound_on l)
+    (λ on v. record { source = record { table = tv; alias = av; on = v.fits; unjoined = v.unjoined }; alone = v.alone })))
+
+sound_join : (l : Link) → Sound (λ next. Is (is symbol.Join) (λ _. next l)) Nothing
+sound_join l = sound_behind (is symbol.Join) (λ _ next. next l) Nothing (λ _ _ _. sound Nothing l tt)
+
+sound_outer : Sound (λ next. IsOptional (is symbol.Outer) (λ _. Is (is symbol.Join) (λ _. next link.LeftJoin))) Nothing
+sound_outer = sound_bind (IsOptional (is symbol.Outer)) (λ _ next. Is (is symbol.Join) (λ _. next link.LeftJoin)) Nothing Nothing (sound_optional (is symbol.Outer)) (λ _ _. sound_join link.LeftJoin)
+
+sound_link : Sound IsLink Nothing
+sound_link =
+    sound_or (λ next. Is (is symbol.Comma) (λ _. next link.Comma)) _ Nothing (sound_behind (is symbol.Comma) (λ _ next. next link.Comma) Nothing (λ _ _ _. sound Nothing link.Comma tt))
+    (sound_or (λ next. Is (is symbol.Join) (λ _. next link.Join)) _ Nothing (sound_join link.Join)
+    (sound_or (λ next. Is (is symbol.Inner) (λ _. Is (is symbol.Join) (λ _. next link.Join))) _ Nothing
+    (sound_behind (is symbol.Inner) (λ _ next. Is (is symbol.Join) (λ _. next link.Join)) Nothing (λ _ _ _. sound_join link.Join))
+    (sound_behind (is symbol.Left) (λ _ next. IsOptional (is symbol.Outer) (λ _. Is (is symbol.Join) (λ _. next link.LeftJoin))) Nothing (λ _ _ _. sound_outer))))
 
 record ValidSources (sources : List Source) : Type 0 where
   list : ValidList 64 ValidSource sources
@@ -77,9 +97,9 @@ grown_sources first alone sources g = record {
 
 sound_sources : Sound (IsSources 32 never) ValidSources
 sound_sources =
-    sound_bind (IsSource 32 never false) (λ first. IsFurther never 64 IsJoin (IsSource 32 never) (first ∷ [])) (ValidJoined false) ValidSources (sound_source false)
-    (λ first v. sound_better (IsFurther never 64 IsJoin (IsSource 32 never) (first ∷ [])) (Grown 64 ValidSource (first ∷ [])) ValidSources (grown_sources first (v.alone refl))
-    (sound_further 64 IsJoin (IsSource 32 never) ValidSource sound_join (λ joined. sound_better (IsSource 32 never joined) (ValidJoined joined) ValidSource (λ s w. w.source) (sound_source joined)) (first ∷ []) (v.source, tt) (omega arith)))
+    sound_bind (IsSource 32 never link.Comma) (λ first. IsFurther never 64 IsLink (IsSource 32 never) (first ∷ [])) (ValidLinked link.Comma) ValidSources (sound_source link.Comma)
+    (λ first v. sound_better (IsFurther never 64 IsLink (IsSource 32 never) (first ∷ [])) (Grown 64 ValidSource (first ∷ [])) ValidSources (grown_sources first (v.alone refl))
+    (sound_further 64 IsLink (IsSource 32 never) ValidSource sound_link (λ l. sound_better (IsSource 32 never l) (ValidLinked l) ValidSource (λ s w. w.source) (sound_source l)) (first ∷ []) (v.source, tt) (omega arith)))
 
 -- the parts that may be left out
 sound_where : (s : Symbol) (grouped : Bool) → Sound (λ next ts. next None ts ⊎ Is (is s) (λ _. IsCondition grouped 32 never (λ cond. next (Some cond))) ts) (Where (Fits grouped whole 32))

@@ -53,6 +53,14 @@ pub spells_join : Spells any (codes " JOIN ") (word symbol.Join ∷ [])
 unfolding reserved_word
 spells_join = word_between symbol.Join (reserved_spells symbol.Join refl refl refl (omega arith))
 
+spells_plain_join : Spells any (codes "JOIN ") (word symbol.Join ∷ [])
+unfolding reserved_word
+spells_plain_join = word_before symbol.Join (reserved_spells symbol.Join refl refl refl (omega arith))
+
+pub spells_left_join : Spells any (codes " LEFT JOIN ") (word symbol.Left ∷ (word symbol.Join ∷ []))
+unfolding reserved_word
+spells_left_join = spells_after (word_between symbol.Left (reserved_spells symbol.Left refl refl refl (omega arith))) spells_plain_join
+
 pub spells_on : Spells any (codes " ON ") (word symbol.On ∷ [])
 unfolding reserved_word
 spells_on = word_between symbol.On (reserved_spells symbol.On refl refl refl (omega arith))

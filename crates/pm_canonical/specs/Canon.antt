@@ -2,7 +2,7 @@
 use Rattle.std.specs.Prelude.{ℕ, ℤ, Bool, true, false, not, ◌==◌, ◌-◌, ◌+◌, List, [], ◌∷◌, ◌++◌, Option, Some, None, if◌then◌else◌, codes, length, take, drop, map, replicate, decimal, unsigned_abs, int_lt, pos}
 use Rattle.std.specs.List.{flat_map}
 use Rattle.pm_lexer.specs.Quoting.{quoted, canon_name}
-use Rattle.pm_syntax.specs.declared.tree.PlacedName.{PlacedName}
+use Rattle.pm_grammar.specs.declared.names.PlacedName.{PlacedName}
 use Rattle.pm_syntax.specs.declared.tree.ColumnName.{ColumnName}
 use Rattle.pm_syntax.specs.declared.tree.Func.{Func}
 use Rattle.pm_syntax.specs.declared.tree.Func.TheVariants as func
@@ -132,10 +132,13 @@ canon_items (items.List list) = joined (codes ", ") (map canon_item list)
 unfoldable pub canon_source : Source → List ℕ
 canon_source source = canon_name source.table.text ++ canon_given source.alias
 
--- a source behind others
+abbrev pub join_words : Bool → List ℕ
+join_words left = if left then codes " LEFT JOIN " else codes " JOIN "
+
+-- a source after others
 abbrev pub canon_further : Option Test → Source → List ℕ
 canon_further None source = codes ", " ++ canon_source source
-canon_further (Some on) source = codes " JOIN " ++ canon_source source ++ codes " ON " ++ canon_test on
+canon_further (Some on) source = join_words source.left ++ canon_source source ++ codes " ON " ++ canon_test on
 
 abbrev pub canon_sources : List Source → List ℕ
 canon_sources [] = []

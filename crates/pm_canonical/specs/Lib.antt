@@ -1,3 +1,2 @@
 pub mod Canon
 pub mod ReadBack
-pub mod Same

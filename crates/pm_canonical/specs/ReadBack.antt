@@ -5,7 +5,7 @@ use Rattle.pm_lexer.specs.Tokens.{tokens_of}
 use Rattle.pm_syntax.specs.declared.tree.Select.{Select}
 use Rattle.pm_syntax.specs.Statement.{Reads}
 use Rattle.pm_canonical.specs.Canon.{canon}
-use Rattle.pm_canonical.specs.Same.{SameTree}
+use Rattle.pm_syntax.specs.Same.{SameStatement}
 
 -- The canonical text of a statement has tokens, which are read as the same statement but for its places, and that one's canonical
 -- text is the same.
@@ -14,5 +14,5 @@ pub record ReadsBack (select : Select) : Type 0 where
   pub lexed : tokens_of (canon select) ≡ Ok tokens
   pub again : Select
   pub read : Reads tokens again
-  pub same : SameTree select again
+  pub same : SameStatement select again
   pub text : canon again ≡ canon select

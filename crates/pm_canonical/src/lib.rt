@@ -2,12 +2,12 @@
 //! in specs/.
 #![tactic(auto)]
 
-pub mod numerals;
-pub mod printing;
-pub mod read_back;
+mod numerals;
+mod printing;
+mod read_back;
 #[cfg(test)]
 mod tests;
-pub mod words;
+mod words;
 
 pub use printing::print;
 pub use read_back::canonical_text_is_read_back;

@@ -1,6 +1,6 @@
 ghost use Rattle.std.specs.Prelude.{◌≡◌, ◌++◌, OnOk, IfOk, string_bytes, map, codes, [], if◌then◌else◌, ◌==◌};
 ghost use Rattle.std.specs.List.{flat_map};
-ghost use Rattle.pm_canonical.specs.Canon.{canon_literal, canon_atom, canon_given, canon_item, canon_items, canon_source, canon_further, canon_sources, canon_condition, canon_list, canon, canon_key, joined, behind, negation, canon_comparison, canon_test, text_of, member_of, separator, is_wrapped};
+ghost use Rattle.pm_canonical.specs.Canon.{canon_literal, canon_atom, canon_given, canon_item, canon_items, canon_source, join_words, canon_further, canon_sources, canon_condition, canon_list, canon, canon_key, joined, behind, negation, canon_comparison, canon_test, text_of, member_of, separator, is_wrapped};
 
 use crate::numerals::put_number;
 use crate::words::{comparison_word, put_column, put_expr};
@@ -298,7 +298,13 @@ fn put_source(out: &mut String, source: &Source) -> Result<(), AllocError>
     put_given(out, &source.alias)
 }
 
-// A source behind others.
+fn join_words(left: bool) -> &'static str
+    ensures { result.now ≡ join_words left }
+{
+    if left { " LEFT JOIN " } else { " JOIN " }
+}
+
+// A source after others.
 fn put_further(out: &mut String, source: &Source) -> Result<(), AllocError>
     ensures { OnOk result (string_bytes out.new ≡ string_bytes out.old ++ canon_further source.now.on source.now) }
 {
@@ -308,7 +314,7 @@ fn put_further(out: &mut String, source: &Source) -> Result<(), AllocError>
             put_source(out, source)
         }
         Some(on) => {
-            out.push_str(" JOIN ")?;
+            out.push_str(join_words(source.left))?;
             put_source(out, source)?;
             out.push_str(" ON ")?;
             put_test(out, on)

@@ -13,7 +13,7 @@ pub record IsWhole (select : Select) (name : List ℕ) : Type 0 where
   pub at : ℕ
   pub distinct : select.distinct ≡ false
   pub items : select.items ≡ items.All star
-  pub sources : select.sources ≡ record { table = record { text = name; at = at }; alias = None; on = None } ∷ []
+  pub sources : select.sources ≡ record { table = record { text = name; at = at }; alias = None; on = None; left = false } ∷ []
   pub filter : select.filter ≡ None
   pub groups : select.groups ≡ []
   pub having : select.having ≡ None

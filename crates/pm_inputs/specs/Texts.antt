@@ -8,8 +8,8 @@ use Rattle.pm_lexer.specs.declared.fault.LexBad.{LexBad}
 use Rattle.pm_lexer.specs.declared.fault.LexBad.TheVariants as lexing
 use Rattle.pm_lexer.specs.Tokens.{tokens_of}
 use Rattle.pm_syntax.specs.declared.tree.Select.{Select}
-use Rattle.pm_syntax.specs.declared.fault.SynBad.{SynBad}
-use Rattle.pm_syntax.specs.declared.fault.SynBad.TheVariants as syntax
+use Rattle.pm_grammar.specs.declared.fault.SynBad.{SynBad}
+use Rattle.pm_grammar.specs.declared.fault.SynBad.TheVariants as syntax
 use Rattle.pm_syntax.specs.Statement as statement
 use Rattle.pm_schema.specs.declared.fault.SchemaBad.{SchemaBad}
 use Rattle.pm_schema.specs.declared.fault.SchemaBad.TheVariants as schema

@@ -42,7 +42,7 @@ fn whole_table(select: &Select) -> Option<&Txt>
     let [source] = select.sources.as_slice() else {
         return None;
     };
-    if source.alias.is_some() || source.on.is_some() {
+    if source.alias.is_some() || source.on.is_some() || source.left {
         return None;
     }
     Some(&source.table.text)

@@ -10,6 +10,8 @@ use Rattle.std.proofs.lemmas.List.{get_or-take}
 use Rattle.std.proofs.lemmas.Slice.Eq.{bytes_eq-Decides}
 use Rattle.std.proofs.lemmas.Bool.{eqb-true, eqb-false}
 use Rattle.pm_lexer.specs.declared.token.TokenKind.TheVariants as kind
+use Rattle.pm_lexer.specs.declared.symbol.TheConstants.{NUMBER_BYTES}
+use Rattle.pm_lexer.specs.declared.head.TheConstants.{NAME_BYTES, DIGITS, DECIMALS}
 use Rattle.pm_lexer.specs.Byte.{is_blank, is_letter, is_word, is_inline}
 use Rattle.pm_lexer.specs.Pieces.{whole_len, decimals, decimals_len, longer, quotation, single_quotes}
 use Rattle.pm_lexer.specs.declared.symbol.Symbol.{Symbol}
@@ -92,10 +94,10 @@ cut_line text u h =
 name_cuts : (at : ℕ) (text : List ℕ) → IsUtf8 text → 0 < prefix_len is_word text → Cuts text (name_at at text)
 unfolding name_at
 name_cuts at text u h =
-    choose (Cuts text) (nat_lt 64 (prefix_len is_word text)) _ _ (λ _. tt)
+    choose (Cuts text) (nat_lt NAME_BYTES (prefix_len is_word text)) _ _ (λ _. tt)
     (λ _. (cut_run is_word word_ascii text u h, no_number (is_some (reserved_word (take (prefix_len is_word text) text)))))
   where
-    no_number : {n : ℕ} (b : Bool) → (if b then kind.Reserved else kind.Name) ≡ kind.Number → n ≤ 31
+    no_number : {n : ℕ} (b : Bool) → (if b then kind.Reserved else kind.Name) ≡ kind.Number → n ≤ NUMBER_BYTES
     no_number true e = absurd (cc e)
     no_number false e = absurd (cc e)
 
@@ -123,15 +125,15 @@ decimals_shorter (b ∷ rest) h =
 number_cuts : (at : ℕ) (text : List ℕ) → IsUtf8 text → 0 < whole_len text → Cuts text (number_at at text)
 unfolding number_at
 number_cuts at text u h =
-    choose (Cuts text) (nat_lt 30 (whole_len text + decimals_len text) || nat_lt 6 (decimals_len text)) _ _ (λ _. tt)
-    (λ e. choose (λ n. IsCut text n × (kind.Number ≡ kind.Number → n ≤ 31)) (decimals_len text == 0) (whole_len text) (whole_len text + 1 + decimals_len text)
+    choose (Cuts text) (nat_lt DIGITS (whole_len text + decimals_len text) || nat_lt DECIMALS (decimals_len text)) _ _ (λ _. tt)
+    (λ e. choose (λ n. IsCut text n × (kind.Number ≡ kind.Number → n ≤ NUMBER_BYTES)) (decimals_len text == 0) (whole_len text) (whole_len text + 1 + decimals_len text)
     (λ none. (cut_run is_ascii_digit digit_ascii text u h, λ _. short_whole (whole_len text) (decimals_len text) e))
     (λ some. (cut_decimals (omega (arith, eqb-false (decimals_len text) 0 some)), λ _. short_all (whole_len text) (decimals_len text) e)))
   where
-    short_whole : (w d : ℕ) → (nat_lt 30 (w + d) || nat_lt 6 d) ≡ false → w ≤ 31
+    short_whole : (w d : ℕ) → (nat_lt DIGITS (w + d) || nat_lt DECIMALS d) ≡ false → w ≤ NUMBER_BYTES
     short_whole w d e = grind (arith, nat_tests)
 
-    short_all : (w d : ℕ) → (nat_lt 30 (w + d) || nat_lt 6 d) ≡ false → w + 1 + d ≤ 31
+    short_all : (w d : ℕ) → (nat_lt DIGITS (w + d) || nat_lt DECIMALS d) ≡ false → w + 1 + d ≤ NUMBER_BYTES
     short_all w d e = grind (arith, nat_tests)
 
     cut_decimals : 0 < decimals_len text → IsCut text (whole_len text + 1 + decimals_len text)
@@ -188,7 +190,7 @@ text_cuts at b rest u =
 named_cuts : (at n : ℕ) (text name : List ℕ) → length name ≡ n → IsCut text (n + 2) → Cuts text (named_at at name)
 unfolding named_at
 named_cuts at n text name e cut =
-    choose (Cuts text) (length name == 0) _ _ (λ _. tt) (λ _. choose (Cuts text) (nat_lt 64 (length (single_quotes 34 name))) _ _ (λ _. tt) (λ _. plain (position is_ascii_control name)))
+    choose (Cuts text) (length name == 0) _ _ (λ _. tt) (λ _. choose (Cuts text) (nat_lt NAME_BYTES (length (single_quotes 34 name))) _ _ (λ _. tt) (λ _. plain (position is_ascii_control name)))
   where
     plain : (o : Option ℕ) → Cuts text (plain_at at (length name) o)
     plain None = (rw e cut, λ k. absurd (cc k))

@@ -9,6 +9,8 @@ use Rattle.pm_lexer.specs.declared.token.TokenKind.TheVariants as kind
 use Rattle.pm_lexer.specs.declared.fault.LexBad.{LexBad}
 use Rattle.pm_lexer.specs.declared.head.Head.{Head}
 use Rattle.pm_lexer.specs.declared.head.Head.TheVariants as head
+use Rattle.pm_lexer.specs.declared.symbol.TheConstants.{NUMBER_BYTES}
+use Rattle.pm_lexer.specs.declared.head.TheConstants.{NAME_BYTES, DIGITS, DECIMALS}
 use Rattle.pm_lexer.specs.Byte.{is_blank, is_letter, is_word, is_inline}
 use Rattle.pm_lexer.specs.Pieces.{whole_len, decimals_len, number_len, quotation, single_quotes}
 use Rattle.pm_lexer.specs.Symbol.{reserved_word, sign_of}
@@ -165,7 +167,7 @@ unfolding name_at
 name_head at b rest e plain =
     let text : List ℕ = b ∷ rest in
     let n : ℕ = prefix_len is_word text in
-    choose (IsHead text) (nat_lt 64 n) _ _ (λ _. tt) (λ _.
+    choose (IsHead text) (nat_lt NAME_BYTES n) _ _ (λ _. tt) (λ _.
     elim (is_some (reserved_word (take n text))) as (λ w. is_some (reserved_word (take n text)) ≡ w → Reaches (if w then kind.Reserved else kind.Name) n text × (starts_with nat_eq text (codes "--") ≡ false)) [
       | true ↦ λ w. (of_class kind.Reserved n 0 b rest (letter_class b e) (word_form b rest e, w) (word_reach b rest), plain)
       | false ↦ λ w. (of_class kind.Name n 0 b rest (letter_class b e) (word_form b rest e, w) (word_reach b rest), plain)
@@ -174,7 +176,7 @@ name_head at b rest e plain =
 number_head : (at b : ℕ) (rest : List ℕ) → is_ascii_digit b ≡ true → starts_with nat_eq (b ∷ rest) (codes "--") ≡ false → IsHead (b ∷ rest) (number_at at (b ∷ rest))
 unfolding number_at
 number_head at b rest e plain =
-    choose (IsHead (b ∷ rest)) (nat_lt 30 (whole_len (b ∷ rest) + decimals_len (b ∷ rest)) || nat_lt 6 (decimals_len (b ∷ rest))) _ _ (λ _. tt)
+    choose (IsHead (b ∷ rest)) (nat_lt DIGITS (whole_len (b ∷ rest) + decimals_len (b ∷ rest)) || nat_lt DECIMALS (decimals_len (b ∷ rest))) _ _ (λ _. tt)
     (λ _. (of_class kind.Number (number_len (b ∷ rest)) 1 b rest (digit_class b e) (number_form (b ∷ rest) (run_some is_ascii_digit b rest e)) (number_reach (b ∷ rest)), plain))
 
 -- up to the closing quote
@@ -194,7 +196,7 @@ text_head at b rest same plain =
 named_head : (at n : ℕ) (text name : List ℕ) → length name ≡ n → Reaches kind.Quoted (n + 2) text × (starts_with nat_eq text (codes "--") ≡ false) → IsHead text (named_at at name)
 unfolding named_at
 named_head at n text name size reaches =
-    choose (IsHead text) (length name == 0) _ _ (λ _. tt) (λ _. choose (IsHead text) (nat_lt 64 (length (single_quotes 34 name))) _ _ (λ _. tt) (λ _. plain_head (position is_ascii_control name)))
+    choose (IsHead text) (length name == 0) _ _ (λ _. tt) (λ _. choose (IsHead text) (nat_lt NAME_BYTES (length (single_quotes 34 name))) _ _ (λ _. tt) (λ _. plain_head (position is_ascii_control name)))
   where
     plain_head : (o : Option ℕ) → IsHead text (plain_at at (length name) o)
     plain_head None = rw size reaches

@@ -3,6 +3,7 @@ pub mod QuoteEnds
 pub mod Quotation
 pub mod Doubling
 pub mod Walk
+pub mod TokenKinds
 pub mod Runs
 pub mod Forms
 pub mod InTurns

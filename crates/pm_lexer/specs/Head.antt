@@ -11,18 +11,20 @@ use Rattle.pm_lexer.specs.declared.head.Head.TheVariants as head
 use Rattle.pm_lexer.specs.Byte.{is_blank, is_letter, is_word, is_inline}
 use Rattle.pm_lexer.specs.Pieces.{whole_len, decimals_len, number_len, quotation, single_quotes}
 use Rattle.pm_lexer.specs.Symbol.{reserved_word, sign_of}
+use Rattle.pm_lexer.specs.declared.symbol.TheConstants.{NUMBER_BYTES}
+use Rattle.pm_lexer.specs.declared.head.TheConstants.{NAME_BYTES, DIGITS, DECIMALS}
 
 -- a plain name of at most 64 bytes, or a reserved word
 unfoldable pub name_at : ℕ → List ℕ → Result Head LexBad
 name_at at text =
     let n = prefix_len is_word text in
-    if nat_lt 64 n then Err (bad.LongName at)
+    if nat_lt NAME_BYTES n then Err (bad.LongName at)
     else Ok (head.Piece (if is_some (reserved_word (take n text)) then kind.Reserved else kind.Name) n)
 
 -- a number of at most 30 digits, at most 6 of them behind the point
 unfoldable pub number_at : ℕ → List ℕ → Result Head LexBad
 number_at at text =
-    if nat_lt 30 (whole_len text + decimals_len text) || nat_lt 6 (decimals_len text) then Err (bad.LongNumber at)
+    if nat_lt DIGITS (whole_len text + decimals_len text) || nat_lt DECIMALS (decimals_len text) then Err (bad.LongNumber at)
     else Ok (head.Piece kind.Number (number_len text))
 
 -- the head of a quoted name with these bytes between its quotes, and with this first control character
@@ -34,7 +36,7 @@ plain_at at n (Some i) = Err (bad.BadChar (at + 1 + i))
 unfoldable pub named_at : ℕ → List ℕ → Result Head LexBad
 named_at at name =
     if length name == 0 then Err (bad.BadChar at)
-    else (if nat_lt 64 (length (single_quotes 34 name)) then Err (bad.LongName at)
+    else (if nat_lt NAME_BYTES (length (single_quotes 34 name)) then Err (bad.LongName at)
     else plain_at at (length name) (position is_ascii_control name))
 
 -- a quoted name, by the text behind its first quote and the place of its last one there
@@ -80,5 +82,5 @@ pub record IsCut (text : List ℕ) (n : ℕ) : Type 0 where
 -- what stands at the head of a text is a part of it that ends between two characters, and a number is short
 abbrev pub Cuts : List ℕ → Result Head LexBad → Type 0
 Cuts text (Ok (head.Gap n)) = IsCut text n
-Cuts text (Ok (head.Piece k n)) = IsCut text n × (k ≡ kind.Number → n ≤ 31)
+Cuts text (Ok (head.Piece k n)) = IsCut text n × (k ≡ kind.Number → n ≤ NUMBER_BYTES)
 Cuts text (Err e) = Unit {0}

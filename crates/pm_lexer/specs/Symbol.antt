@@ -1,5 +1,5 @@
 -- What a grammar sees of a token.
-use Rattle.std.specs.Prelude.{ℕ, Bool, List, [], Option, Some, codes, unwrap_or, if◌then◌else◌}
+use Rattle.std.specs.Prelude.{ℕ, Bool, List, [], Option, Some, codes, unwrap_or, if◌then◌else◌, length, nat_le}
 use denote.Enum.Bare.{sameb}
 use Rattle.std.specs.List.{find}
 use Rattle.std.specs.Str.{bytes_eq, str_eq_ignore_ascii_case}
@@ -9,7 +9,7 @@ use Rattle.pm_lexer.specs.declared.token.TokenKind.TheVariants as kind
 use Rattle.pm_lexer.specs.declared.symbol.Symbol.{Symbol}
 use Rattle.pm_lexer.specs.declared.symbol.Symbol.TheVariants as symbol
 use Rattle.pm_lexer.specs.contracts.symbol.Symbol.{the_type}
-use Rattle.pm_lexer.specs.declared.symbol.TheConstants.{RESERVED, SIGNS}
+use Rattle.pm_lexer.specs.declared.symbol.TheConstants.{NUMBER_BYTES, RESERVED, SIGNS}
 
 -- a reserved word in capitals, or a sign
 abbrev pub spelling : Symbol → List ℕ
@@ -75,11 +75,12 @@ canonical_sign bytes = find (λ sign. bytes_eq bytes (spelling sign)) SIGNS
 abbrev pub sign_of : List ℕ → Option Symbol
 sign_of bytes = if bytes_eq bytes (codes "!=") then Some symbol.Unequal else canonical_sign bytes
 
+-- a number of more bytes is no token of a text
 abbrev pub symbol_at : TokenKind → List ℕ → Symbol
 symbol_at kind.Name slice = symbol.Name
 symbol_at kind.Reserved slice = unwrap_or (reserved_word slice) symbol.Other
 symbol_at kind.Quoted slice = symbol.Name
-symbol_at kind.Number slice = symbol.Number
+symbol_at kind.Number slice = if nat_le (length slice) NUMBER_BYTES then symbol.Number else symbol.Other
 symbol_at kind.Text slice = symbol.Text
 symbol_at kind.Sign slice = unwrap_or (sign_of slice) symbol.Other
 symbol_at kind.End slice = symbol.End

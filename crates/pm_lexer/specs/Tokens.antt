@@ -4,6 +4,7 @@ use Rattle.pm_lexer.specs.declared.token.Token.{Token}
 use Rattle.pm_lexer.specs.declared.token.TokenKind.TheVariants as kind
 use Rattle.pm_lexer.specs.declared.fault.LexBad.{LexBad}
 use Rattle.pm_lexer.specs.declared.head.Head.TheVariants as head
+use Rattle.pm_lexer.specs.declared.symbol.TheConstants.{NUMBER_BYTES}
 use Rattle.pm_lexer.specs.Head.{head_of}
 
 -- a token before the others, where there are tokens
@@ -36,4 +37,4 @@ tokens_of text = tokens_behind 0 0 text
 
 -- a number of a text has at most 30 digits and a point
 abbrev pub IsShortNumber : Token → Type 0
-IsShortNumber token = token.kind ≡ kind.Number → length token.slice ≤ 31
+IsShortNumber token = token.kind ≡ kind.Number → length token.slice ≤ NUMBER_BYTES

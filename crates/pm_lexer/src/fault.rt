@@ -1,3 +1,4 @@
+//! Why a text has no tokens.
 ghost use Rattle.std.specs.Prelude.{◌≡◌};
 ghost use Rattle.pm_lexer.specs.declared.fault.LexBad.TheVariants.{Memory};
 

@@ -1,3 +1,4 @@
+//! What stands at the head of a text.
 ghost use Rattle.std.specs.Prelude.{◌≡◌, ◌+◌, ◌<◌, ◌≤◌, ◌^◌, ◌&&◌, length, take, drop, slice_index, IfSome, MatchOption, None, Some, position, IfOk};
 ghost use Rattle.std.specs.List.{prefix_len};
 ghost use Rattle.std.specs.Char.{is_ascii_control, is_ascii_digit};
@@ -8,6 +9,15 @@ ghost use Rattle.pm_lexer.specs.Head.{name_at, number_at, named_at, quoted_at, t
 use crate::fault::LexBad;
 use crate::symbol::Symbol;
 use crate::token::TokenKind;
+
+/// The most bytes of a name, its quotes not counted and a doubled quote counted once.
+pub const NAME_BYTES: usize = 64;
+
+/// The most digits of a number.
+pub const DIGITS: usize = 30;
+
+/// The most digits of a number after its point.
+pub const DECIMALS: usize = 6;
 
 /// What stands at the head of a text: a blank or a comment, or a token, of so many bytes.
 #[derive(Clone, Copy, Debug, PartialEq, Eq)]
@@ -55,7 +65,7 @@ fn digits_len(text: &[u8]) -> usize
     text.iter().take_while(|b| b.is_ascii_digit()).count()
 }
 
-// The digits behind a point.
+// The digits after a point.
 fn decimals(text: &[u8]) -> usize
     ensures run { result ≡ decimals text.now }
     ensures within { result ≤ length text.now }
@@ -66,7 +76,7 @@ fn decimals(text: &[u8]) -> usize
     }
 }
 
-/// How many digits stand behind the point of the number that the text begins with.
+/// How many digits stand after the point of the number that the text begins with.
 pub fn decimals_len(text: &[u8]) -> usize
     ensures run { result ≡ decimals_len text.now }
     ensures within { result ≤ length text.now }
@@ -116,7 +126,7 @@ fn name(text: &[u8], at: u64) -> Result<Head, LexBad>
     ensures { result ≡ name_at at text.now }
 {
     let len = word_len(text);
-    if len > 64 {
+    if len > NAME_BYTES {
         return Err(LexBad::LongName(at));
     }
     let (word, _) = text.split_at(len);
@@ -134,7 +144,7 @@ fn number(text: &[u8], at: u64) -> Result<Head, LexBad>
 {
     let whole = digits_len(text);
     let decimals = decimals_len(text);
-    if decimals > 6 || whole > 30 || whole + decimals > 30 {
+    if decimals > DECIMALS || whole > DIGITS || whole + decimals > DIGITS {
         return Err(LexBad::LongNumber(at));
     }
     let len = if decimals == 0 {
@@ -162,7 +172,7 @@ fn named(name: &[u8], at: u64) -> Result<Head, LexBad>
     if name.is_empty() {
         return Err(LexBad::BadChar(at));
     }
-    if single_quotes_len(b'"', name) > 64 {
+    if single_quotes_len(b'"', name) > NAME_BYTES {
         return Err(LexBad::LongName(at));
     }
     match control(name) {
@@ -171,7 +181,7 @@ fn named(name: &[u8], at: u64) -> Result<Head, LexBad>
     }
 }
 
-// A quoted name, by what stands behind its first quote.
+// A quoted name, by what stands after its first quote.
 fn quoted(rest: &[u8], at: u64) -> Result<Head, LexBad>
     requires { at + length rest.now + 1 < 2 ^ 63 }
     ensures { result ≡ quoted_at at rest.now }

@@ -1,3 +1,4 @@
+//! The tokens of a text.
 ghost use Rattle.std.specs.Prelude.{◌≡◌, ◌≢◌, Ok, Err, IfOk, IfErr, OnOk, All, ◌<◌, ◌+◌, ◌^◌, length, drop};
 ghost use Rattle.pm_lexer.specs.Tokens.{tokens_of, tokens_behind, all_before, IsShortNumber};
 ghost use Rattle.pm_lexer.specs.Head.{IsCut};

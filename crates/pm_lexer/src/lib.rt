@@ -3,21 +3,22 @@
 //! a quoted token stands for.
 #![tactic(auto)]
 
-pub mod fault;
-pub mod head;
-pub mod laws;
-pub mod lexing;
-pub mod quoting;
-pub mod symbol;
+mod fault;
+mod head;
+mod laws;
+mod lexing;
+mod quoting;
+mod symbol;
 #[cfg(test)]
 mod tests;
-pub mod token;
-pub mod unquote;
+mod token;
+mod unquote;
 
 pub use fault::LexBad;
-pub use head::decimals_len;
+pub use head::{DECIMALS, DIGITS, NAME_BYTES, decimals_len};
+pub use laws::{tokens_are_the_longest, words_and_signs};
 pub use lexing::lex;
 pub use quoting::{put_name, put_quoted};
-pub use symbol::Symbol;
+pub use symbol::{NUMBER_BYTES, RESERVED, SIGNS, Symbol};
 pub use token::{Token, TokenKind, Tokens};
 pub use unquote::content;

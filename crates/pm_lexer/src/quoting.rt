@@ -1,3 +1,4 @@
+//! Names and texts as they are written.
 ghost use Rattle.std.specs.Prelude.{◌≡◌, ◌++◌, ◌<◌, ◌≤◌, ◌&&◌, ◌-◌, drop, take, length, OnOk, string_bytes, not, is_some, if◌then◌else◌, ◌==◌, [], ◌∷◌};
 ghost use Rattle.std.specs.List.{list_all};
 ghost use Rattle.pm_lexer.specs.Byte.{is_letter, is_word};

@@ -1,6 +1,8 @@
+//! What a grammar sees of a token: the reserved words, the signs, and the other kinds.
 ghost use Rattle.std.specs.Prelude.{◌≡◌, codes};
 ghost use Rattle.std.specs.Str.{str_eq_ignore_ascii_case};
-ghost use Rattle.pm_lexer.specs.Symbol.{spelling, reserved_word, canonical_sign, sign_of, symbol_of};
+ghost use Rattle.pm_lexer.specs.Symbol.{spelling, reserved_word, canonical_sign, sign_of, symbol_at, symbol_of};
+ghost use Rattle.pm_lexer.specs.declared.token.TokenKind.TheVariants as kind;
 
 use crate::token::{Token, TokenKind};
 
@@ -58,6 +60,9 @@ pub enum Symbol {
     End,
     Other,
 }
+
+/// The most bytes that a number has: 30 digits and a point.
+pub const NUMBER_BYTES: usize = 31;
 
 /// The reserved words.
 pub const RESERVED: [Symbol; 31] = [
@@ -193,7 +198,7 @@ impl Symbol {
     {
         match token.kind {
             TokenKind::Name | TokenKind::Quoted => Symbol::Name,
-            TokenKind::Number => Symbol::Number,
+            TokenKind::Number => of_number(token.slice.bytes()),
             TokenKind::Text => Symbol::Text,
             TokenKind::End => Symbol::End,
             TokenKind::Reserved => Symbol::reserved_word(token.slice.bytes()).unwrap_or(
@@ -201,6 +206,16 @@ impl Symbol {
             ),
             TokenKind::Sign => Symbol::sign_of(token.slice.bytes()).unwrap_or(Symbol::Other),
         }
+    }
+}
+
+fn of_number(bytes: &[u8]) -> Symbol
+    ensures { result ≡ symbol_at kind.Number bytes.now }
+{
+    if bytes.len() <= NUMBER_BYTES {
+        Symbol::Number
+    } else {
+        Symbol::Other
     }
 }
 

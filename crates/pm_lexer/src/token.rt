@@ -1,3 +1,4 @@
+//! Tokens.
 use pm_values::{Items, Txt};
 
 /// What a token is.

@@ -1,3 +1,4 @@
+//! What a quoted token stands for.
 ghost use Rattle.std.specs.Prelude.{◌≡◌, ◌<◌, ◌≤◌, ◌^◌, ◌++◌, take, drop, length, IfOk, MatchOption};
 ghost use Rattle.pm_lexer.specs.Pieces.{inside, behind_quote, single_quotes, content_of, NoneBefore, IsFirst};
 

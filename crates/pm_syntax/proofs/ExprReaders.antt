@@ -12,7 +12,7 @@ use Rattle.pm_grammar.proofs.Phrases.{Phrase, Next, Reader, Nothing, NotOther, B
 use Rattle.pm_grammar.proofs.Readers.{Then, Or, Same, pure_reader, then_reader, same_reader, same_began, map_reader}
 use Rattle.pm_grammar.proofs.Firsts.{BeginsWith, bars, not_both}
 use Rattle.pm_grammar.proofs.Furthers.{choice_reader, behind_reader, optional_reader}
-use Rattle.pm_syntax.specs.declared.tree.PlacedName.{PlacedName}
+use Rattle.pm_grammar.specs.declared.names.PlacedName.{PlacedName}
 use Rattle.pm_syntax.specs.declared.tree.ColumnName.{ColumnName}
 use Rattle.pm_syntax.specs.declared.tree.Func.TheVariants as func
 use Rattle.pm_syntax.specs.declared.tree.Expr.{Expr}
@@ -21,30 +21,31 @@ use Rattle.pm_syntax.specs.declared.tree.Literal.{Literal}
 use Rattle.pm_syntax.specs.declared.tree.Literal.TheVariants as literal
 use Rattle.pm_syntax.specs.declared.tree.Atom.{Atom}
 use Rattle.pm_syntax.specs.declared.tree.Atom.TheVariants as atom
-use Rattle.pm_syntax.specs.Terminals.{named, func_of, func_of_kind, magnitude}
+use Rattle.pm_grammar.specs.Reading.{named, name_at}
+use Rattle.pm_syntax.specs.Terminals.{func_of, func_of_kind, magnitude}
 use Rattle.pm_syntax.specs.Grammar.{IsName, IsColumn, counts, is_count, IsCountAll, IsCall, IsExpr, IsLiteral, IsTerm, IsOperand}
-use Rattle.pm_syntax.specs.Reading.{name_at, column_behind, column_at, call_behind, expr_behind, expr_at, literal_at, term_at, operand_at}
-use Rattle.pm_syntax.proofs.Tokens.{sample, stands_name, stands_point, stands_open, stands_close, stands_star, stands_minus, stands_number, stands_text, stands_null, symbol_reader}
-use Rattle.pm_syntax.proofs.Helpers.{token_began}
-use Rattle.pm_syntax.proofs.Sets.{AnyOf, widened, none_other, apart}
+use Rattle.pm_syntax.specs.Reading.{column_after, column_at, call_after, expr_after, expr_at, literal_at, term_at, operand_at}
+use Rattle.pm_grammar.proofs.Symbols.{sample, sample_is, symbol_reader}
+use Rattle.pm_grammar.proofs.Helpers.{token_began}
+use Rattle.pm_grammar.proofs.Sets.{AnyOf, widened, none_other, apart}
 
-pub name_reader : (S : Token → Type 0) (d : ℕ) → Reader S (λ _ _. IsName) d name_at
-unfolding name_at
-name_reader S d = symbol_reader S symbol.Name stands_name _ d _ (λ t. pure_reader S d (named t))
+pub name_reader : (S : Token → Type 0) (d : ℕ) → Reader S (λ _ _. IsName) d (name_at (is symbol.Name))
+unfolding name_at same_symbol
+name_reader S d = symbol_reader S symbol.Name refl _ d _ (λ t. pure_reader S d (named t))
 
 -- behind a column's first name
-abbrev pub ColumnBehind : PlacedName → Phrase ColumnName
-ColumnBehind first _ _ next ts = next (record { alias = None; name = first }) ts ⊎ Is (is symbol.Point) (λ _. IsName (λ name. next (record { alias = Some first; name = name }))) ts
+abbrev pub ColumnAfter : PlacedName → Phrase ColumnName
+ColumnAfter first _ _ next ts = next (record { alias = None; name = first }) ts ⊎ Is (is symbol.Point) (λ _. IsName (λ name. next (record { alias = Some first; name = name }))) ts
 
-pub column_behind_reader : (S : Token → Type 0) → ((t : Token) → is symbol.Point t ≡ true → S t) → (first : PlacedName) (d : ℕ) → Reader S (ColumnBehind first) d (column_behind first)
-unfolding column_behind
-column_behind_reader S inS first d =
-    optional_reader S (is symbol.Point) (sample symbol.Point) stands_point (λ _ _ next. IsName (λ name. next (record { alias = Some first; name = name }))) (record { alias = None; name = first }) d _
-    (map_reader S (λ _ _. IsName) (λ name. record { alias = Some first; name = name }) d name_at (name_reader S d)) inS
+pub column_after_reader : (S : Token → Type 0) → ((t : Token) → is symbol.Point t ≡ true → S t) → (first : PlacedName) (d : ℕ) → Reader S (ColumnAfter first) d (column_after first)
+unfolding column_after same_symbol
+column_after_reader S inS first d =
+    optional_reader S (is symbol.Point) (sample symbol.Point) (sample_is symbol.Point refl) (λ _ _ next. IsName (λ name. next (record { alias = Some first; name = name }))) (record { alias = None; name = first }) d _
+    (map_reader S (λ _ _. IsName) (λ name. record { alias = Some first; name = name }) d (name_at (is symbol.Name)) (name_reader S d)) inS
 
 pub column_reader : (S : Token → Type 0) → ((t : Token) → is symbol.Point t ≡ true → S t) → (d : ℕ) → Reader S (λ _ _. IsColumn) d column_at
 unfolding column_at
-column_reader S inS d = then_reader S Nothing (λ _ _. IsName) ColumnBehind d name_at _ (name_reader Nothing d) (λ first. column_behind_reader S inS first d) (λ a d' g next avoids t ts s h. s)
+column_reader S inS d = then_reader S Nothing (λ _ _. IsName) ColumnAfter d (name_at (is symbol.Name)) _ (name_reader Nothing d) (λ first. column_after_reader S inS first d) (λ a d' g next avoids t ts s h. s)
 
 -- a function's name is a name
 func_is_name : (t : Token) → is_some (func_of t) ≡ true → is symbol.Name t ≡ true
@@ -70,8 +71,8 @@ CountsAll f _ _ next = Is (is symbol.Star) (λ _. Is (is symbol.Close) (λ _. ne
 abbrev pub CallsColumn : Token → Phrase Expr
 CallsColumn f _ _ next = IsColumn (λ column. Is (is symbol.Close) (λ _. next (expr.Call (unwrap_or (func_of f) func.Count) column f.at)))
 
-abbrev pub CallBehind : Token → Phrase Expr
-CallBehind f d g next ts = CallsColumn f d g next ts ⊎ ((counts f ≡ true) × CountsAll f d g next ts)
+abbrev pub CallAfter : Token → Phrase Expr
+CallAfter f d g next ts = CallsColumn f d g next ts ⊎ ((counts f ≡ true) × CountsAll f d g next ts)
 
 calls_begins : (f : Token) → BeginsWith (CallsColumn f) (λ t. is symbol.Name t ≡ true)
 calls_begins f d g next [] h = h
@@ -84,41 +85,41 @@ calls_column_reader : (S : Token → Type 0) (f : Token) (d : ℕ) → Reader S 
 unfolding same_symbol
 calls_column_reader S f d =
     then_reader S PointOnly (λ _ _. IsColumn) (λ column _ _ next. Is (is symbol.Close) (λ _. next (expr.Call (unwrap_or (func_of f) func.Count) column f.at))) d column_at _ (column_reader PointOnly (λ t e. inl e) d)
-    (λ column. symbol_reader S symbol.Close stands_close _ d _ (λ _. pure_reader S d (expr.Call (unwrap_or (func_of f) func.Count) column f.at)))
+    (λ column. symbol_reader S symbol.Close refl _ d _ (λ _. pure_reader S d (expr.Call (unwrap_or (func_of f) func.Count) column f.at)))
     (λ a d' g next avoids t ts s h. elim s [ inl e ↦ not_both symbol.Point symbol.Close t refl e h.0 | inr none ↦ none ])
 
-call_reader : (S : Token → Type 0) (f : Token) (d : ℕ) → Reader S (CallBehind f) d (call_behind f)
-unfolding call_behind same_symbol
+call_reader : (S : Token → Type 0) (f : Token) (d : ℕ) → Reader S (CallAfter f) d (call_after f)
+unfolding call_after same_symbol
 call_reader S f d =
     elim (counts f) as (λ b. counts f ≡ b → Reader S (λ d g next ts. CallsColumn f d g next ts ⊎ ((b ≡ true) × CountsAll f d g next ts)) d (λ ts.
     if b && sees (is symbol.Star) ts then (token_at (is symbol.Close) (drop 1 ts) >>= λ close. Ok (expr.CountAll f.at, close.1))
     else (column_at ts >>= λ column. token_at (is symbol.Close) column.1 >>= λ close. Ok (expr.Call (unwrap_or (func_of f) func.Count) column.0 f.at, close.1)))) [
       | true ↦ λ _. same_reader S (Or (CallsColumn f) (CountsAll f)) _ d _ (record { to = λ d g next ts h. elim h [ inl c ↦ inl c | inr a ↦ inr (refl, a) ]; from = λ d g next ts h. elim h [ inl c ↦ inl c | inr a ↦ inr a.1 ] })
-          (behind_reader S (is symbol.Star) (sample symbol.Star) stands_star (λ _ _ next. Is (is symbol.Close) (λ _. next (expr.CountAll f.at))) (CallsColumn f) d _ _
-          (symbol_reader S symbol.Close stands_close _ d _ (λ _. pure_reader S d (expr.CountAll f.at))) (calls_column_reader S f d)
+          (behind_reader S (is symbol.Star) (sample symbol.Star) (sample_is symbol.Star refl) (λ _ _ next. Is (is symbol.Close) (λ _. next (expr.CountAll f.at))) (CallsColumn f) d _ _
+          (symbol_reader S symbol.Close refl _ d _ (λ _. pure_reader S d (expr.CountAll f.at))) (calls_column_reader S f d)
           (bars S (CallsColumn f) (λ t. is symbol.Name t ≡ true) (is symbol.Star) (calls_begins f) (λ t e n. not_both symbol.Star symbol.Name t refl e n)))
       | false ↦ λ _. same_reader S (CallsColumn f) _ d _ (record { to = λ d g next ts h. inl h; from = λ d g next ts h. elim h [ inl c ↦ c | inr a ↦ absurd (cc a.0) ] }) (calls_column_reader S f d)
     ] refl
 
 -- behind the first name of an expression
 abbrev pub Columned : Token → Phrase Expr
-Columned first d g next = ColumnBehind (named first) d g (λ column. next (expr.Column column))
+Columned first d g next = ColumnAfter (named first) d g (λ column. next (expr.Column column))
 
 abbrev pub Called : Token → Phrase Expr
-Called first = Then (λ _ _. Is (is symbol.Open)) (λ _. CallBehind first)
+Called first = Then (λ _ _. Is (is symbol.Open)) (λ _. CallAfter first)
 
-abbrev pub ExprBehind : Token → Phrase Expr
-ExprBehind first d g next ts = Columned first d g next ts ⊎ ((is_some (func_of first) ≡ true) × Called first d g next ts)
+abbrev pub ExprAfter : Token → Phrase Expr
+ExprAfter first d g next ts = Columned first d g next ts ⊎ ((is_some (func_of first) ≡ true) × Called first d g next ts)
 
-expr_behind_reader : (S : Token → Type 0) → ((t : Token) → is symbol.Point t ≡ true → S t) → ((t : Token) → is symbol.Open t ≡ true → S t) → (first : Token) (d : ℕ) → Reader S (ExprBehind first) d (expr_behind first)
-unfolding expr_behind same_symbol
-expr_behind_reader S point paren first d =
-    let columns : Reader S (Columned first) d (λ ts. column_behind (named first) ts >>= λ column. Ok (expr.Column column.0, column.1)) =
-    map_reader S (ColumnBehind (named first)) (λ column. expr.Column column) d _ (column_behind_reader S point (named first) d) in
+expr_after_reader : (S : Token → Type 0) → ((t : Token) → is symbol.Point t ≡ true → S t) → ((t : Token) → is symbol.Open t ≡ true → S t) → (first : Token) (d : ℕ) → Reader S (ExprAfter first) d (expr_after first)
+unfolding expr_after same_symbol
+expr_after_reader S point paren first d =
+    let columns : Reader S (Columned first) d (λ ts. column_after (named first) ts >>= λ column. Ok (expr.Column column.0, column.1)) =
+    map_reader S (ColumnAfter (named first)) (λ column. expr.Column column) d _ (column_after_reader S point (named first) d) in
     elim (is_some (func_of first)) as (λ b. is_some (func_of first) ≡ b → Reader S (λ d g next ts. Columned first d g next ts ⊎ ((b ≡ true) × Called first d g next ts)) d (λ ts.
-    if b && sees (is symbol.Open) ts then call_behind first (drop 1 ts) else (column_behind (named first) ts >>= λ column. Ok (expr.Column column.0, column.1)))) [
+    if b && sees (is symbol.Open) ts then call_after first (drop 1 ts) else (column_after (named first) ts >>= λ column. Ok (expr.Column column.0, column.1)))) [
       | true ↦ λ _. same_reader S (Or (Columned first) (Called first)) _ d _ (record { to = λ d g next ts h. elim h [ inl c ↦ inl c | inr a ↦ inr (refl, a) ]; from = λ d g next ts h. elim h [ inl c ↦ inl c | inr a ↦ inr a.1 ] })
-          (behind_reader S (is symbol.Open) (sample symbol.Open) stands_open (CallBehind first) (Columned first) d _ _ (call_reader S first d) columns (λ ts e d' g next w avoids heads h. column_stops ts e d' g next w avoids heads h))
+          (behind_reader S (is symbol.Open) (sample symbol.Open) (sample_is symbol.Open refl) (CallAfter first) (Columned first) d _ _ (call_reader S first d) columns (λ ts e d' g next w avoids heads h. column_stops ts e d' g next w avoids heads h))
       | false ↦ λ _. same_reader S (Columned first) _ d _ (record { to = λ d g next ts h. inl h; from = λ d g next ts h. elim h [ inl c ↦ c | inr a ↦ absurd (cc a.0) ] }) columns
     ] refl
   where
@@ -130,7 +131,7 @@ expr_behind_reader S point paren first d =
         elim h [ inl n ↦ avoids _ u us (paren u here) n | inr p ↦ not_both symbol.Open symbol.Point u refl here p.0 ]
 
 -- expr = column | COUNT "(" "*" ")" | func "(" column ")"
-expr_to : (d : ℕ) (g : Gate) (next : Next Expr) (ts : List Token) → Then (λ _ _. Is (is symbol.Name)) ExprBehind d g next ts → IsExpr next ts
+expr_to : (d : ℕ) (g : Gate) (next : Next Expr) (ts : List Token) → Then (λ _ _. Is (is symbol.Name)) ExprAfter d g next ts → IsExpr next ts
 expr_to d g next [] h = absurd h
 expr_to d g next (t ∷ ts) h = elim h.1 [
   | inl column ↦ inl (h.0, column)
@@ -141,7 +142,7 @@ expr_to d g next (t ∷ ts) h = elim h.1 [
     called [] f c = absurd c
     called (u ∷ us) f c = elim c.1 [ inl column ↦ inr (f, (c.0, column)) | inr all ↦ inl (all.0, (c.0, all.1)) ]
 
-expr_from : (d : ℕ) (g : Gate) (next : Next Expr) (ts : List Token) → IsExpr next ts → Then (λ _ _. Is (is symbol.Name)) ExprBehind d g next ts
+expr_from : (d : ℕ) (g : Gate) (next : Next Expr) (ts : List Token) → IsExpr next ts → Then (λ _ _. Is (is symbol.Name)) ExprAfter d g next ts
 expr_from d g next [] h = elim h [ inl c ↦ c | inr o ↦ elim o [ inl a ↦ a | inr c ↦ c ] ]
 expr_from d g next (t ∷ ts) h = elim h [
   | inl c ↦ (c.0, inl c.1)
@@ -160,10 +161,10 @@ expr_from d g next (t ∷ ts) h = elim h [
     one (u ∷ us) c = (c.0, inl c.1)
 
 pub expr_reader : (S : Token → Type 0) → ((t : Token) → is symbol.Point t ≡ true → S t) → ((t : Token) → is symbol.Open t ≡ true → S t) → (d : ℕ) → Reader S (λ _ _. IsExpr) d expr_at
-unfolding expr_at
+unfolding expr_at same_symbol
 expr_reader S point paren d =
-    same_reader S (Then (λ _ _. Is (is symbol.Name)) ExprBehind) _ d _ (record { to = expr_to; from = expr_from })
-    (symbol_reader S symbol.Name stands_name _ d _ (λ first. expr_behind_reader S point paren first d))
+    same_reader S (Then (λ _ _. Is (is symbol.Name)) ExprAfter) _ d _ (record { to = expr_to; from = expr_from })
+    (symbol_reader S symbol.Name refl _ d _ (λ first. expr_after_reader S point paren first d))
 
 pub expr_begins : BeginsWith (λ _ _. IsExpr) (λ t. is symbol.Name t ≡ true)
 expr_begins d g next [] h = elim h [ inl c ↦ c | inr o ↦ elim o [ inl a ↦ a | inr c ↦ c ] ]
@@ -231,18 +232,18 @@ pub literal_reader : (S : Token → Type 0) (d : ℕ) → Reader S (λ _ _. IsLi
 unfolding literal_at same_symbol
 literal_reader S d =
     let plain : Reader S Plain d (λ ts. token_at (is symbol.Number) ts >>= λ n. Ok (literal.Number (pos (magnitude n.0)) (decimals_len n.0.slice), n.1)) =
-    symbol_reader S symbol.Number stands_number _ d _ (λ n. pure_reader S d (literal.Number (pos (magnitude n)) (decimals_len n.slice))) in
+    symbol_reader S symbol.Number refl _ d _ (λ n. pure_reader S d (literal.Number (pos (magnitude n)) (decimals_len n.slice))) in
     let negative : Reader S Negative d (λ ts. token_at (is symbol.Number) ts >>= λ n. Ok (literal.Number (neg_ℤ (pos (magnitude n.0))) (decimals_len n.0.slice), n.1)) =
-    symbol_reader S symbol.Number stands_number _ d _ (λ n. pure_reader S d (literal.Number (neg_ℤ (pos (magnitude n))) (decimals_len n.slice))) in
+    symbol_reader S symbol.Number refl _ d _ (λ n. pure_reader S d (literal.Number (neg_ℤ (pos (magnitude n))) (decimals_len n.slice))) in
     let texts : Reader S Texts d (λ ts. token_at (is symbol.Text) ts >>= λ text. Ok (literal.Text (content_of text.0), text.1)) =
-    symbol_reader S symbol.Text stands_text _ d _ (λ text. pure_reader S d (literal.Text (content_of text))) in
-    let null_or = behind_reader S (is symbol.Null) (sample symbol.Null) stands_null Nulls Plain d (λ r. Ok (literal.Null, r)) _ (pure_reader S d literal.Null) plain
+    symbol_reader S symbol.Text refl _ d _ (λ text. pure_reader S d (literal.Text (content_of text))) in
+    let null_or = behind_reader S (is symbol.Null) (sample symbol.Null) (sample_is symbol.Null refl) Nulls Plain d (λ r. Ok (literal.Null, r)) _ (pure_reader S d literal.Null) plain
     (bars S Plain (AnyOf (symbol.Number ∷ [])) (is symbol.Null) plain_begins (λ t e h. apart symbol.Null (symbol.Number ∷ []) refl t e h)) in
     let text_or = choice_reader S Texts NullOr (is symbol.Text) d _ _ texts null_or
     (bars S NullOr (AnyOf (symbol.Number ∷ symbol.Null ∷ [])) (is symbol.Text) null_or_begins (λ t e h. apart symbol.Text (symbol.Number ∷ symbol.Null ∷ []) refl t e h))
     (none_other S Texts (AnyOf (symbol.Text ∷ [])) (is symbol.Text) texts_begins (λ t h. elim h [ inl e ↦ e | inr none ↦ absurd none ])) in
     same_reader S MinusOr (λ _ _. IsLiteral) d _ literal_same
-    (behind_reader S (is symbol.Minus) (sample symbol.Minus) stands_minus Negative TextOr d _ _ negative text_or
+    (behind_reader S (is symbol.Minus) (sample symbol.Minus) (sample_is symbol.Minus refl) Negative TextOr d _ _ negative text_or
     (bars S TextOr (AnyOf (symbol.Text ∷ symbol.Number ∷ symbol.Null ∷ [])) (is symbol.Minus) text_or_begins (λ t e h. apart symbol.Minus (symbol.Text ∷ symbol.Number ∷ symbol.Null ∷ []) refl t e h)))
 
 -- operand = expr | literal
@@ -290,8 +291,8 @@ operand_begins grouped d g next w h = elim h [
 -- an expression may begin with each name
 pub expr_began : (t : Token) → is symbol.Name t ≡ true → (d : ℕ) → Began (λ _ _. IsExpr) d [] (t ∷ [])
 expr_began t e d =
-    same_began (Then (λ _ _. Is (is symbol.Name)) ExprBehind) (λ _ _. IsExpr) (record { to = expr_to; from = expr_from })
-    (token_began (is symbol.Name) t e d (expr_behind_reader (AnyOf (symbol.Point ∷ symbol.Open ∷ [])) (λ t e. inl e) (λ t e. inr (inl e)) t d).able)
+    same_began (Then (λ _ _. Is (is symbol.Name)) ExprAfter) (λ _ _. IsExpr) (record { to = expr_to; from = expr_from })
+    (token_began (is symbol.Name) t e d (expr_after_reader (AnyOf (symbol.Point ∷ symbol.Open ∷ [])) (λ t e. inl e) (λ t e. inr (inl e)) t d).able)
 
 pub column_began : (t : Token) → is symbol.Name t ≡ true → (d : ℕ) → Began (λ _ _. IsColumn) d [] (t ∷ [])
 column_began t e d = record { more = []; value = record { alias = None; name = named t }; ends = λ d' g next v le o h. (e, inl h) }

@@ -12,12 +12,13 @@ use Rattle.pm_grammar.proofs.Firsts.{BeginsWith, bars}
 use Rattle.pm_grammar.proofs.Furthers.{behind_reader, list_reader}
 use Rattle.pm_syntax.specs.declared.tree.Test.{Test}
 use Rattle.pm_syntax.specs.declared.tree.Test.TheVariants as test
+use Rattle.pm_syntax.specs.Terminals.{begins_test, opens}
 use Rattle.pm_syntax.specs.Grammar.{all_of, any_of, IsPartAnd, IsCond, IsPart}
-use Rattle.pm_syntax.specs.Reading.{test_at, begins_test, opens, ands_at, cond_at, part_peek, part_at, condition_at}
-use Rattle.pm_syntax.proofs.Tokens.{sample, stands_not, stands_open, stands_close, stands_and, stands_or, symbol_reader}
-use Rattle.pm_syntax.proofs.Sets.{AnyOf, widened, apart, within}
+use Rattle.pm_syntax.specs.Reading.{test_at, ands_at, cond_at, part_peek, part_at, condition_at}
+use Rattle.pm_grammar.proofs.Symbols.{sample, sample_is, symbol_reader}
+use Rattle.pm_grammar.proofs.Sets.{AnyOf, widened, apart, within}
 use Rattle.pm_syntax.proofs.Parts.{no_not, no_open}
-use Rattle.pm_syntax.proofs.Helpers.{token_began, then_peek}
+use Rattle.pm_grammar.proofs.Helpers.{token_began, then_peek}
 use Rattle.pm_syntax.proofs.ExprReaders.{OperandFirst}
 use Rattle.pm_syntax.proofs.TestReaders.{OperandEnds, Tests, test_reader, test_begins, test_began, first_test, test_first}
 
@@ -66,7 +67,8 @@ unfolding IsMore
 conds_able grouped d = let p = part_able grouped d in record { more = p.more; value = p.value; ends = λ d' g next v le o h. p.ends d' g _ v le o (0, (0, h)) }
 
 inner_able : (grouped : Bool) (d : ℕ) → Able (Inner grouped) d
-inner_able grouped d = then_began {Q = λ cond _ _ next. Is (is symbol.Close) (λ _. next cond)} (λ cond. record { more = sample symbol.Close ∷ []; value = cond; ends = λ d' g next v le o h. (stands_close, h) }) (conds_able grouped d)
+unfolding same_symbol
+inner_able grouped d = then_began {Q = λ cond _ _ next. Is (is symbol.Close) (λ _. next cond)} (λ cond. record { more = sample symbol.Close ∷ []; value = cond; ends = λ d' g next v le o h. (sample_is symbol.Close refl, h) }) (conds_able grouped d)
 
 not_able : (grouped : Bool) (d : ℕ) → Able (NotPart grouped) d
 not_able grouped d = then_began {Q = λ part _ _ next. next (test.Not part)} (λ part. record { more = []; value = test.Not part; ends = λ d' g next v le o h. h }) (part_able grouped d)
@@ -200,7 +202,7 @@ ands_reader : (grouped : Bool) (d : ℕ) → Reader OperandEnds (Part grouped) d
 unfolding ands_at same_symbol
 ands_reader grouped d r =
     map_reader AndEnds (λ d g. IsList g 256 (IsPart grouped d g) (is symbol.And)) all_of d _
-    (list_reader AndEnds OperandEnds (Part grouped) (is symbol.And) (sample symbol.And) stands_and (part_peek d) 256 d (part_at grouped d) r (part_look OperandEnds grouped d)
+    (list_reader AndEnds OperandEnds (Part grouped) (is symbol.And) (sample symbol.And) (sample_is symbol.And refl) (part_peek d) 256 d (part_at grouped d) r (part_look OperandEnds grouped d)
     (λ t e. inr (inr (inl e))) (λ t s e. apart symbol.And (symbol.Point ∷ symbol.Open ∷ []) refl t e s) (λ t s. within (symbol.Point ∷ symbol.Open ∷ []) (symbol.Point ∷ symbol.Open ∷ symbol.And ∷ []) refl t s))
 
 -- further parts of an AND list
@@ -227,7 +229,7 @@ conds_reader : (grouped : Bool) (d : ℕ) → Reader OperandEnds (Part grouped) 
 unfolding cond_at same_symbol
 conds_reader grouped d r =
     map_reader CondEnds (λ d g. IsList g 256 (IsPartAnd g (IsPart grouped d g)) (is symbol.Or)) any_of d _
-    (list_reader CondEnds AndEnds (Ands grouped) (is symbol.Or) (sample symbol.Or) stands_or (part_peek d) 256 d (ands_at (part_peek d) (part_at grouped d)) (ands_reader grouped d r) (ands_look grouped d)
+    (list_reader CondEnds AndEnds (Ands grouped) (is symbol.Or) (sample symbol.Or) (sample_is symbol.Or refl) (part_peek d) 256 d (ands_at (part_peek d) (part_at grouped d)) (ands_reader grouped d r) (ands_look grouped d)
     (λ t e. inr (inr (inr (inl e)))) (λ t s e. apart symbol.Or (symbol.Point ∷ symbol.Open ∷ symbol.And ∷ []) refl t e s)
     (λ t s. within (symbol.Point ∷ symbol.Open ∷ symbol.And ∷ []) (symbol.Point ∷ symbol.Open ∷ symbol.And ∷ symbol.Or ∷ []) refl t s))
 
@@ -241,7 +243,7 @@ inner_reader : (grouped : Bool) (d : ℕ) → Reader OperandEnds (Part grouped) 
 unfolding same_symbol
 inner_reader grouped d r =
     then_reader OperandEnds CondEnds (Conds grouped) (λ cond _ _ next. Is (is symbol.Close) (λ _. next cond)) d (cond_at (part_peek d) (part_at grouped d)) _ (conds_reader grouped d r)
-    (λ cond. symbol_reader OperandEnds symbol.Close stands_close _ d _ (λ _. pure_reader OperandEnds d cond))
+    (λ cond. symbol_reader OperandEnds symbol.Close refl _ d _ (λ _. pure_reader OperandEnds d cond))
     (λ a d' g next avoids t ts s h. apart symbol.Close (symbol.Point ∷ symbol.Open ∷ symbol.And ∷ symbol.Or ∷ []) refl t h.0 s)
 
 pub part_reader : (grouped : Bool) (d : ℕ) → Reader OperandEnds (Part grouped) d (part_at grouped d)
@@ -259,9 +261,9 @@ part_reader grouped zero = record {
 part_reader grouped (suc d) =
     let r = part_reader grouped d in
     same_reader OperandEnds (PartOr grouped) (Part grouped) (suc d) _ (part_same grouped)
-    (behind_reader OperandEnds (is symbol.Not) (sample symbol.Not) stands_not (Under (NotPart grouped)) (ParenOr grouped) (suc d) _ _
+    (behind_reader OperandEnds (is symbol.Not) (sample symbol.Not) (sample_is symbol.Not refl) (Under (NotPart grouped)) (ParenOr grouped) (suc d) _ _
     (under_reader OperandEnds (NotPart grouped) d _ (map_reader OperandEnds (Part grouped) (λ part. test.Not part) d (part_at grouped d) r))
-    (behind_reader OperandEnds (is symbol.Open) (sample symbol.Open) stands_open (Under (Inner grouped)) (Tests grouped) (suc d) _ (test_at grouped)
+    (behind_reader OperandEnds (is symbol.Open) (sample symbol.Open) (sample_is symbol.Open refl) (Under (Inner grouped)) (Tests grouped) (suc d) _ (test_at grouped)
     (under_reader OperandEnds (Inner grouped) d _ (inner_reader grouped d r)) (test_reader OperandEnds (λ t e. e) grouped (suc d))
     (bars OperandEnds (Tests grouped) OperandFirst (is symbol.Open) (test_begins grouped) (λ t e h. apart symbol.Open (symbol.Name ∷ symbol.Minus ∷ symbol.Text ∷ symbol.Null ∷ symbol.Number ∷ []) refl t e h)))
     (bars OperandEnds (ParenOr grouped) (AnyOf (symbol.Open ∷ symbol.Name ∷ symbol.Minus ∷ symbol.Text ∷ symbol.Null ∷ symbol.Number ∷ [])) (is symbol.Not) (paren_or_begins grouped)

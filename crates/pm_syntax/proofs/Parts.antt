@@ -5,7 +5,8 @@ use Rattle.pm_lexer.specs.declared.symbol.Symbol.TheVariants as symbol
 use Rattle.pm_lexer.specs.Symbol.{is}
 use Rattle.pm_grammar.specs.Reading.{too_deep, ◌>>=◌, place_of, sees, token_at}
 use Rattle.pm_syntax.specs.declared.tree.Test.TheVariants as test
-use Rattle.pm_syntax.specs.Reading.{part_at, part_peek, cond_at, test_at, opens, begins_test}
+use Rattle.pm_syntax.specs.Reading.{part_at, part_peek, cond_at, test_at}
+use Rattle.pm_syntax.specs.Terminals.{opens, begins_test}
 
 pub peek_deep : (ts : List Token) → sees opens ts ≡ true → part_peek 0 ts ≡ Err (too_deep (place_of ts))
 unfolding part_peek

@@ -4,14 +4,14 @@ use Rattle.pm_lexer.specs.declared.token.Token.{Token}
 use Rattle.pm_lexer.specs.declared.symbol.Symbol.{Symbol}
 use Rattle.pm_lexer.specs.declared.symbol.Symbol.TheVariants as symbol
 use Rattle.pm_lexer.specs.Symbol.{same_symbol, is}
-use Rattle.pm_grammar.specs.Language.{Gate, Is, IsFurther, IsList}
+use Rattle.pm_grammar.specs.Language.{Gate, Is, IsFurther, IsList, IsOptional}
 use Rattle.pm_grammar.specs.Reading.{Read, ◌>>=◌, token_at, list_at, more_at}
 use Rattle.pm_grammar.proofs.Phrases.{Phrase, Next, Avoids, Reader, Nothing, NotOther, Able, Began}
 use Rattle.pm_grammar.proofs.Readers.{Then, Or, pure_reader, then_law, then_reader, then_began, same_reader, map_reader, wider_reader}
 use Rattle.pm_grammar.proofs.Lists.{Peek, Further, further_able, more_clear}
 use Rattle.pm_grammar.proofs.Firsts.{BeginsWith, bars, not_both}
 use Rattle.pm_grammar.proofs.Furthers.{Parts, further_law, choice_reader, behind_reader, optional_reader, list_reader, token_peek}
-use Rattle.pm_syntax.specs.declared.tree.PlacedName.{PlacedName}
+use Rattle.pm_grammar.specs.declared.names.PlacedName.{PlacedName}
 use Rattle.pm_syntax.specs.declared.tree.ColumnName.{ColumnName}
 use Rattle.pm_syntax.specs.declared.tree.Expr.{Expr}
 use Rattle.pm_syntax.specs.declared.tree.Item.{Item}
@@ -21,12 +21,15 @@ use Rattle.pm_syntax.specs.declared.tree.Source.{Source}
 use Rattle.pm_syntax.specs.declared.tree.Test.{Test}
 use Rattle.pm_syntax.specs.declared.tree.OrderItem.{OrderItem}
 use Rattle.pm_syntax.specs.declared.tree.Select.{Select}
-use Rattle.pm_syntax.specs.Terminals.{named}
-use Rattle.pm_syntax.specs.Grammar.{IsName, IsColumn, IsExpr, IsOptional, IsCondition, IsGiven, IsItem, IsItems, IsJoin, IsOn, IsSource, IsSources, IsFilter, IsGroups, IsHaving, IsDirection, IsKey, IsOrders, IsSelect}
-use Rattle.pm_syntax.specs.Reading.{name_at, column_at, expr_at, optional_at, condition_at, given_at, item_at, items_at, joins, join_at, on_at, source_at, sources_at, where_at, having_at, groups_at, direction_at, key_at, orders_at, select_at}
-use Rattle.pm_syntax.proofs.Tokens.{sample, stands_select, stands_distinct, stands_from, stands_join, stands_inner, stands_on, stands_where, stands_group, stands_by, stands_having, stands_order, stands_asc, stands_desc, stands_as, stands_comma, stands_star, stands_semicolon, stands_end, symbol_reader}
-use Rattle.pm_syntax.proofs.Sets.{AnyOf, widened, none_other, none_stops, apart, within, disjoint}
-use Rattle.pm_syntax.proofs.Helpers.{maybe_reader}
+use Rattle.pm_grammar.specs.Reading.{named, name_at, optional_at}
+use Rattle.pm_syntax.specs.declared.tree.Link.{Link}
+use Rattle.pm_syntax.specs.declared.tree.Link.TheVariants as link
+use Rattle.pm_syntax.specs.Terminals.{begins_link}
+use Rattle.pm_syntax.specs.Grammar.{IsName, IsColumn, IsExpr, IsCondition, IsGiven, IsItem, IsItems, IsLink, IsJoinCondition, IsOn, is_left, IsSource, IsSources, IsFilter, IsGroups, IsHaving, IsDirection, IsKey, IsOrders, IsSelect}
+use Rattle.pm_syntax.specs.Reading.{column_at, expr_at, condition_at, given_at, item_at, items_at, link_at, join_condition_at, on_at, source_at, sources_at, where_at, having_at, groups_at, direction_at, key_at, orders_at, select_at}
+use Rattle.pm_grammar.proofs.Symbols.{sample, sample_is, symbol_reader}
+use Rattle.pm_grammar.proofs.Sets.{AnyOf, widened, none_other, none_stops, apart, within, disjoint}
+use Rattle.pm_grammar.proofs.Helpers.{maybe_reader}
 use Rattle.pm_syntax.proofs.ExprReaders.{name_reader, column_reader, column_began, expr_reader, expr_begins, expr_began}
 use Rattle.pm_syntax.proofs.PartReaders.{Conds, CondEnds, condition_reader}
 
@@ -48,13 +51,13 @@ named_begins d g next (t ∷ ts) h = h.0
 given_reader : (S : Token → Type 0) → ((t : Token) → is symbol.Name t ≡ true → S t) → ((t : Token) → is symbol.As t ≡ true → S t) → (d : ℕ) → Reader S (λ _ _. IsGiven) d given_at
 unfolding given_at same_symbol
 given_reader S nameS asS d =
-    let names : Reader S Named d (λ ts. name_at ts >>= λ name. Ok (Some name.0, name.1)) = map_reader S (λ _ _. IsName) (λ name. Some name) d name_at (name_reader S d) in
+    let names : Reader S Named d (λ ts. name_at (is symbol.Name) ts >>= λ name. Ok (Some name.0, name.1)) = map_reader S (λ _ _. IsName) (λ name. Some name) d (name_at (is symbol.Name)) (name_reader S d) in
     same_reader S (Or (Or Named Unnamed) (Then (λ _ _. Is (is symbol.As)) (λ _. Named))) (λ _ _. IsGiven) d _
     (record {
       to = λ d g next ts h. elim h [ inl o ↦ elim o [ inl n ↦ inr (inl n) | inr u ↦ inl u ] | inr a ↦ inr (inr a) ];
       from = λ d g next ts h. elim h [ inl u ↦ inl (inr u) | inr o ↦ elim o [ inl n ↦ inl (inl n) | inr a ↦ inr a ] ];
     })
-    (behind_reader S (is symbol.As) (sample symbol.As) stands_as Named (Or Named Unnamed) d _ _ names
+    (behind_reader S (is symbol.As) (sample symbol.As) (sample_is symbol.As refl) Named (Or Named Unnamed) d _ _ names
     (choice_reader S Named Unnamed (is symbol.Name) d _ (λ ts. Ok (None, ts)) names (pure_reader S d None) (none_stops S (is symbol.Name) None nameS)
     (none_other S Named (λ t. is symbol.Name t ≡ true) (is symbol.Name) named_begins (λ t e. e)))
     (λ ts e. or_other S Named Unnamed ts (bars S Named (λ t. is symbol.Name t ≡ true) (is symbol.As) named_begins (λ t a n. not_both symbol.As symbol.Name t refl a n) ts e) (none_stops S (is symbol.As) None asS ts e)))
@@ -119,46 +122,68 @@ items_reader : (d : ℕ) → Reader ItemsEnds (λ _ g. IsItems g) d items_at
 unfolding items_at same_symbol
 items_reader d =
     choice_reader ItemsEnds Stars Listed (is symbol.Star) d _ _
-    (symbol_reader ItemsEnds symbol.Star stands_star _ d _ (λ star. pure_reader ItemsEnds d (items.All star.at)))
+    (symbol_reader ItemsEnds symbol.Star refl _ d _ (λ star. pure_reader ItemsEnds d (items.All star.at)))
     (map_reader ItemsEnds (λ d g. IsList g 64 IsItem (is symbol.Comma)) (λ list. items.List list) d _
-    (list_reader ItemsEnds ItemEnds (λ _ _. IsItem) (is symbol.Comma) (sample symbol.Comma) stands_comma (token_at (is symbol.Name)) 64 d item_at (item_reader d) (item_look d)
+    (list_reader ItemsEnds ItemEnds (λ _ _. IsItem) (is symbol.Comma) (sample symbol.Comma) (sample_is symbol.Comma refl) (token_at (is symbol.Name)) 64 d item_at (item_reader d) (item_look d)
     (λ t e. inr (inr (inr (inr (inl e))))) (λ t s e. apart symbol.Comma (symbol.Point ∷ symbol.Open ∷ symbol.Name ∷ symbol.As ∷ []) refl t e s)
     (λ t s. within (symbol.Point ∷ symbol.Open ∷ symbol.Name ∷ symbol.As ∷ []) (symbol.Point ∷ symbol.Open ∷ symbol.Name ∷ symbol.As ∷ symbol.Comma ∷ []) refl t s)))
     (bars ItemsEnds Listed (λ t. is symbol.Name t ≡ true) (is symbol.Star) listed_begins (λ t e n. not_both symbol.Star symbol.Name t refl e n))
     (none_other ItemsEnds Stars (λ t. is symbol.Star t ≡ true) (is symbol.Star) stars_begin (λ t e. e))
 
--- "," | [ INNER ] JOIN
-abbrev Joined : Phrase Bool
-Joined _ _ next = Is (is symbol.Join) (λ _. next true)
+-- "," | [ INNER ] JOIN | LEFT [ OUTER ] JOIN
+abbrev Joined : Link → Phrase Link
+Joined l _ _ next = Is (is symbol.Join) (λ _. next l)
 
-abbrev JoinedOr : Phrase Bool
-JoinedOr = Or Joined (Then (λ _ _. Is (is symbol.Inner)) (λ _. Joined))
+abbrev Outer : Phrase Link
+Outer _ _ next = IsOptional (is symbol.Outer) (λ _. Is (is symbol.Join) (λ _. next link.LeftJoin))
 
-joined_begins : BeginsWith Joined (λ t. is symbol.Join t ≡ true)
+abbrev LeftOr : Phrase Link
+LeftOr = Or (Joined link.Join) (Then (λ _ _. Is (is symbol.Left)) (λ _. Outer))
+
+abbrev InnerOr : Phrase Link
+InnerOr = Or LeftOr (Then (λ _ _. Is (is symbol.Inner)) (λ _. Joined link.Join))
+
+left_or_begins : BeginsWith LeftOr (AnyOf (symbol.Join ∷ symbol.Left ∷ []))
+left_or_begins d g next [] h = elim h [ inl j ↦ j | inr l ↦ l ]
+left_or_begins d g next (t ∷ ts) h = elim h [ inl j ↦ inl j.0 | inr l ↦ inr (inl l.0) ]
+
+joined_begins : BeginsWith (Joined link.Join) (AnyOf (symbol.Join ∷ []))
 joined_begins d g next [] h = h
-joined_begins d g next (t ∷ ts) h = h.0
+joined_begins d g next (t ∷ ts) h = inl h.0
 
-joined_or_begins : BeginsWith JoinedOr (AnyOf (symbol.Join ∷ symbol.Inner ∷ []))
-joined_or_begins d g next [] h = elim h [ inl j ↦ j | inr i ↦ i ]
-joined_or_begins d g next (t ∷ ts) h = elim h [ inl j ↦ inl j.0 | inr i ↦ inr (inl i.0) ]
+inner_or_begins : BeginsWith InnerOr (AnyOf (symbol.Inner ∷ symbol.Join ∷ symbol.Left ∷ []))
+inner_or_begins d g next [] h = elim h [ inl o ↦ left_or_begins d g next [] o | inr i ↦ i ]
+inner_or_begins d g next (t ∷ ts) h = elim h [ inl o ↦ inr (left_or_begins d g next (t ∷ ts) o) | inr i ↦ inl i.0 ]
 
-join_reader : (S : Token → Type 0) (d : ℕ) → Reader S (λ _ _. IsJoin) d join_at
-unfolding join_at same_symbol
-join_reader S d =
-    let joined : Reader S Joined d (λ ts. token_at (is symbol.Join) ts >>= λ join. Ok (true, join.1)) = symbol_reader S symbol.Join stands_join _ d _ (λ _. pure_reader S d true) in
-    same_reader S (Or JoinedOr (Then (λ _ _. Is (is symbol.Comma)) (λ _ _ _ next. next false))) (λ _ _. IsJoin) d _
+outer_reader : (S : Token → Type 0) (d : ℕ) → Reader S Outer d (λ ts. let outer = optional_at (is symbol.Outer) ts in token_at (is symbol.Join) outer.1 >>= λ join. Ok (link.LeftJoin, join.1))
+unfolding same_symbol
+outer_reader S d =
+    then_reader S (AnyOf (symbol.Outer ∷ [])) (λ _ _. IsOptional (is symbol.Outer)) (λ _. Joined link.LeftJoin) d (λ ts. Ok (optional_at (is symbol.Outer) ts)) (λ outer. token_at (is symbol.Join) outer.1 >>= λ join. Ok (link.LeftJoin, join.1))
+    (maybe_reader (AnyOf (symbol.Outer ∷ [])) (is symbol.Outer) (sample symbol.Outer) (sample_is symbol.Outer refl) d (λ t e. inl e))
+    (λ _. symbol_reader S symbol.Join refl _ d _ (λ _. pure_reader S d link.LeftJoin)) (λ a d' g next avoids t ts s h. apart symbol.Join (symbol.Outer ∷ []) refl t h.0 s)
+
+link_reader : (S : Token → Type 0) (d : ℕ) → Reader S (λ _ _. IsLink) d link_at
+unfolding link_at same_symbol
+link_reader S d =
+    let joined : Reader S (Joined link.Join) d (λ ts. token_at (is symbol.Join) ts >>= λ join. Ok (link.Join, join.1)) = symbol_reader S symbol.Join refl _ d _ (λ _. pure_reader S d link.Join) in
+    same_reader S (Or InnerOr (Then (λ _ _. Is (is symbol.Comma)) (λ _ _ _ next. next link.Comma))) (λ _ _. IsLink) d _
     (record {
-      to = λ d g next ts h. elim h [ inl o ↦ elim o [ inl j ↦ inr (inl j) | inr i ↦ inr (inr i) ] | inr c ↦ inl c ];
-      from = λ d g next ts h. elim h [ inl c ↦ inr c | inr o ↦ elim o [ inl j ↦ inl (inl j) | inr i ↦ inl (inr i) ] ];
+      to = λ d g next ts h. elim h [ inl o ↦ elim o [ inl p ↦ elim p [ inl j ↦ inr (inl j) | inr l ↦ inr (inr (inr l)) ] | inr i ↦ inr (inr (inl i)) ] | inr c ↦ inl c ];
+      from = λ d g next ts h. elim h [ inl c ↦ inr c | inr o ↦ elim o [ inl j ↦ inl (inl (inl j)) | inr p ↦ elim p [ inl i ↦ inl (inr i) | inr l ↦ inl (inl (inr l)) ] ] ];
     })
-    (behind_reader S (is symbol.Comma) (sample symbol.Comma) stands_comma (λ _ _ next. next false) JoinedOr d (λ r. Ok (false, r)) _ (pure_reader S d false)
-    (behind_reader S (is symbol.Inner) (sample symbol.Inner) stands_inner Joined Joined d _ _ joined joined
-    (bars S Joined (λ t. is symbol.Join t ≡ true) (is symbol.Inner) joined_begins (λ t e j. not_both symbol.Inner symbol.Join t refl e j)))
-    (bars S JoinedOr (AnyOf (symbol.Join ∷ symbol.Inner ∷ [])) (is symbol.Comma) joined_or_begins (λ t e h. apart symbol.Comma (symbol.Join ∷ symbol.Inner ∷ []) refl t e h)))
+    (behind_reader S (is symbol.Comma) (sample symbol.Comma) (sample_is symbol.Comma refl) (λ _ _ next. next link.Comma) InnerOr d (λ r. Ok (link.Comma, r)) _ (pure_reader S d link.Comma)
+    (behind_reader S (is symbol.Inner) (sample symbol.Inner) (sample_is symbol.Inner refl) (Joined link.Join) LeftOr d _ _ joined
+    (behind_reader S (is symbol.Left) (sample symbol.Left) (sample_is symbol.Left refl) Outer (Joined link.Join) d _ _ (outer_reader S d) joined
+    (bars S (Joined link.Join) (AnyOf (symbol.Join ∷ [])) (is symbol.Left) joined_begins (λ t e h. apart symbol.Left (symbol.Join ∷ []) refl t e h)))
+    (bars S LeftOr (AnyOf (symbol.Join ∷ symbol.Left ∷ [])) (is symbol.Inner) left_or_begins (λ t e h. apart symbol.Inner (symbol.Join ∷ symbol.Left ∷ []) refl t e h)))
+    (bars S InnerOr (AnyOf (symbol.Inner ∷ symbol.Join ∷ symbol.Left ∷ [])) (is symbol.Comma) inner_or_begins (λ t e h. apart symbol.Comma (symbol.Inner ∷ symbol.Join ∷ symbol.Left ∷ []) refl t e h)))
 
-join_begins : BeginsWith (λ _ _. IsJoin) (AnyOf (symbol.Comma ∷ symbol.Join ∷ symbol.Inner ∷ []))
-join_begins d g next [] h = elim h [ inl c ↦ c | inr o ↦ elim o [ inl j ↦ j | inr i ↦ i ] ]
-join_begins d g next (t ∷ ts) h = elim h [ inl c ↦ inl c.0 | inr o ↦ elim o [ inl j ↦ inr (inl j.0) | inr i ↦ inr (inr (inl i.0)) ] ]
+abbrev links : List Symbol
+links = symbol.Comma ∷ symbol.Join ∷ symbol.Inner ∷ symbol.Left ∷ []
+
+link_begins : BeginsWith (λ _ _. IsLink) (AnyOf links)
+link_begins d g next [] h = elim h [ inl c ↦ c | inr o ↦ elim o [ inl j ↦ j | inr p ↦ elim p [ inl i ↦ i | inr l ↦ l ] ] ]
+link_begins d g next (t ∷ ts) h = elim h [ inl c ↦ inl c.0 | inr o ↦ elim o [ inl j ↦ inr (inl j.0) | inr p ↦ elim p [ inl i ↦ inr (inr (inl i.0)) | inr l ↦ inr (inr (inr (inl l.0))) ] ] ]
 
 or_true : (a : Bool) → (a || true) ≡ true
 or_true true = refl
@@ -168,14 +193,23 @@ either : (a b : Bool) → (a || b) ≡ true → (a ≡ true) ⊎ (b ≡ true)
 either true b e = inl refl
 either false b e = inr e
 
-joins_first : (t : Token) → AnyOf (symbol.Comma ∷ symbol.Join ∷ symbol.Inner ∷ []) t → joins t ≡ true
-joins_first t h = elim h [
+links_first : (t : Token) → AnyOf links t → begins_link t ≡ true
+links_first t h = elim h [
   | inl c ↦ rw c refl
-  | inr o ↦ elim o [ inl j ↦ rw (j, or_true (is symbol.Comma t)) refl | inr p ↦ elim p [ inl i ↦ rw (i, or_true (is symbol.Comma t || is symbol.Join t)) refl | inr none ↦ absurd none ] ]
+  | inr o ↦ elim o [
+    | inl j ↦ rw (j, or_true (is symbol.Comma t)) refl
+    | inr p ↦ elim p [
+      | inl i ↦ rw (i, or_true (is symbol.Comma t || is symbol.Join t)) refl
+      | inr q ↦ elim q [ inl l ↦ rw (l, or_true (is symbol.Comma t || is symbol.Join t || is symbol.Inner t)) refl | inr none ↦ absurd none ]
+    ]
+  ]
 ]
 
-first_joins : (t : Token) → joins t ≡ true → AnyOf (symbol.Comma ∷ symbol.Join ∷ symbol.Inner ∷ []) t
-first_joins t e = elim (either (is symbol.Comma t || is symbol.Join t) (is symbol.Inner t) e) [ inr i ↦ inr (inr (inl i)) | inl o ↦ elim (either (is symbol.Comma t) (is symbol.Join t) o) [ inl c ↦ inl c | inr j ↦ inr (inl j) ] ]
+first_links : (t : Token) → begins_link t ≡ true → AnyOf links t
+first_links t e = elim (either (is symbol.Comma t || is symbol.Join t || is symbol.Inner t) (is symbol.Left t) e) [
+  | inr l ↦ inr (inr (inr (inl l)))
+  | inl o ↦ elim (either (is symbol.Comma t || is symbol.Join t) (is symbol.Inner t) o) [ inr i ↦ inr (inr (inl i)) | inl p ↦ elim (either (is symbol.Comma t) (is symbol.Join t) p) [ inl c ↦ inl c | inr j ↦ inr (inl j) ] ]
+]
 
 -- source = name [ [ AS ] name ], with its condition
 abbrev source_ends : List Symbol
@@ -184,86 +218,92 @@ source_ends = symbol.Point ∷ symbol.Open ∷ symbol.And ∷ symbol.Or ∷ symb
 abbrev SourceEnds : Token → Type 0
 SourceEnds = AnyOf source_ends
 
-abbrev On : Bool → Phrase (Option Test)
-On joined d g = IsOn d g joined
+abbrev On : Link → Phrase (Option Test)
+On l d g = IsOn d g l
 
-on_reader : (joined : Bool) (d : ℕ) → Reader SourceEnds (On joined) d (on_at d joined)
-unfolding on_at same_symbol
-on_reader true d =
-    symbol_reader SourceEnds symbol.On stands_on _ d _ (λ _. map_reader SourceEnds (Conds false) (λ cond. Some cond) d (condition_at false d)
+join_condition_reader : (d : ℕ) → Reader SourceEnds IsJoinCondition d (join_condition_at d)
+unfolding join_condition_at same_symbol
+join_condition_reader d =
+    symbol_reader SourceEnds symbol.On refl _ d _ (λ _. map_reader SourceEnds (Conds false) (λ cond. Some cond) d (condition_at false d)
     (wider_reader CondEnds SourceEnds (Conds false) d (condition_at false d) (λ t s. within (symbol.Point ∷ symbol.Open ∷ symbol.And ∷ symbol.Or ∷ []) source_ends refl t s) (condition_reader false d)))
-on_reader false d = pure_reader SourceEnds d None
 
-abbrev Sourced : Bool → Phrase Source
-Sourced joined d g = IsSource d g joined
+on_reader : (l : Link) (d : ℕ) → Reader SourceEnds (On l) d (on_at d l)
+unfolding on_at
+on_reader link.Comma d = pure_reader SourceEnds d None
+on_reader link.Join d = join_condition_reader d
+on_reader link.LeftJoin d = join_condition_reader d
+
+abbrev made_source : Link → PlacedName → Option PlacedName → Option Test → Source
+made_source l table alias on = record { table = table; alias = alias; on = on; left = is_left l }
+
+abbrev Sourced : Link → Phrase Source
+Sourced l d g = IsSource d g l
 
 abbrev GivenEnds : Token → Type 0
 GivenEnds = AnyOf (symbol.Name ∷ symbol.As ∷ [])
 
-on_clear : (joined : Bool) (d : ℕ) (g : Gate) (next : Next (Option Test)) (t : Token) (ts : List Token) → GivenEnds t → ((a : Option Test) → next a (t ∷ ts) → ⊥) → On joined d g next (t ∷ ts) → ⊥
+on_clear : (l : Link) (d : ℕ) (g : Gate) (next : Next (Option Test)) (t : Token) (ts : List Token) → GivenEnds t → ((a : Option Test) → next a (t ∷ ts) → ⊥) → On l d g next (t ∷ ts) → ⊥
 unfolding same_symbol
-on_clear true d g next t ts s none h = apart symbol.On (symbol.Name ∷ symbol.As ∷ []) refl t h.0 s
-on_clear false d g next t ts s none h = none None h
+on_clear link.Comma d g next t ts s none h = none None h
+on_clear link.Join d g next t ts s none h = apart symbol.On (symbol.Name ∷ symbol.As ∷ []) refl t h.0 s
+on_clear link.LeftJoin d g next t ts s none h = apart symbol.On (symbol.Name ∷ symbol.As ∷ []) refl t h.0 s
 
-source_reader : (joined : Bool) (d : ℕ) → Reader SourceEnds (Sourced joined) d (source_at d joined)
+source_reader : (l : Link) (d : ℕ) → Reader SourceEnds (Sourced l) d (source_at d l)
 unfolding source_at same_symbol
-source_reader joined d =
-    then_reader SourceEnds Nothing (λ _ _. IsName) (λ table d g next. IsGiven (λ alias. IsOn d g joined (λ on. next (record { table = table; alias = alias; on = on })))) d name_at _ (name_reader Nothing d)
-    (λ table. then_reader SourceEnds GivenEnds (λ _ _. IsGiven) (λ alias d g next. IsOn d g joined (λ on. next (record { table = table; alias = alias; on = on }))) d given_at _ (given_reader GivenEnds (λ t n. inl n) (λ t a. inr (inl a)) d)
-    (λ alias. map_reader SourceEnds (On joined) (λ on. record { table = table; alias = alias; on = on }) d (on_at d joined) (on_reader joined d))
-    (λ a d' g next avoids t ts s h. on_clear joined d' g _ t ts s (λ on n. avoids _ t ts (within (symbol.Name ∷ symbol.As ∷ []) source_ends refl t s) n) h))
+source_reader l d =
+    then_reader SourceEnds Nothing (λ _ _. IsName) (λ table d g next. IsGiven (λ alias. IsOn d g l (λ on. next (made_source l table alias on)))) d (name_at (is symbol.Name)) _ (name_reader Nothing d)
+    (λ table. then_reader SourceEnds GivenEnds (λ _ _. IsGiven) (λ alias d g next. IsOn d g l (λ on. next (made_source l table alias on))) d given_at _ (given_reader GivenEnds (λ t n. inl n) (λ t a. inr (inl a)) d)
+    (λ alias. map_reader SourceEnds (On l) (λ on. made_source l table alias on) d (on_at d l) (on_reader l d))
+    (λ a d' g next avoids t ts s h. on_clear l d' g _ t ts s (λ on n. avoids _ t ts (within (symbol.Name ∷ symbol.As ∷ []) source_ends refl t s) n) h))
     (λ a d' g next avoids t ts s h. s)
 
-source_begins : (joined : Bool) → BeginsWith (Sourced joined) (λ t. is symbol.Name t ≡ true)
-source_begins joined d g next [] h = h
-source_begins joined d g next (t ∷ ts) h = h.0
+source_begins : (l : Link) → BeginsWith (Sourced l) (λ t. is symbol.Name t ≡ true)
+source_begins l d g next [] h = h
+source_begins l d g next (t ∷ ts) h = h.0
 
-source_began : (joined : Bool) (t : Token) → is symbol.Name t ≡ true → (d : ℕ) → Began (Sourced joined) d [] (t ∷ [])
-source_began joined t e d =
-    then_began {P = λ _ _. IsName} {Q = λ table d g next. IsGiven (λ alias. IsOn d g joined (λ on. next (record { table = table; alias = alias; on = on })))} (λ table. then_began {Q = λ alias d g next. IsOn d g joined (λ on. next (record { table = table; alias = alias; on = on }))}
-    (λ alias. (map_reader SourceEnds (On joined) (λ on. record { table = table; alias = alias; on = on }) d (on_at d joined) (on_reader joined d)).able) (given_able (λ given. given) d))
+source_began : (l : Link) (t : Token) → is symbol.Name t ≡ true → (d : ℕ) → Began (Sourced l) d [] (t ∷ [])
+source_began l t e d =
+    then_began {P = λ _ _. IsName} {Q = λ table d g next. IsGiven (λ alias. IsOn d g l (λ on. next (made_source l table alias on)))} (λ table. then_began {Q = λ alias d g next. IsOn d g l (λ on. next (made_source l table alias on))}
+    (λ alias. (map_reader SourceEnds (On l) (λ on. made_source l table alias on) d (on_at d l) (on_reader l d)).able) (given_able (λ given. given) d))
     (record { more = []; value = named t; ends = λ d' g next v le o h. (e, h) })
 
-source_look : (joined : Bool) (d : ℕ) → Peek SourceEnds (Sourced joined) d (token_at (is symbol.Name))
-source_look joined d = token_peek SourceEnds (Sourced joined) (is symbol.Name) d (none_other SourceEnds (Sourced joined) (λ t. is symbol.Name t ≡ true) (is symbol.Name) (source_begins joined) (λ t e. e)) (source_reader joined d).able (λ t e. source_began joined t e d)
+source_look : (l : Link) (d : ℕ) → Peek SourceEnds (Sourced l) d (token_at (is symbol.Name))
+source_look l d = token_peek SourceEnds (Sourced l) (is symbol.Name) d (none_other SourceEnds (Sourced l) (λ t. is symbol.Name t ≡ true) (is symbol.Name) (source_begins l) (λ t e. e)) (source_reader l d).able (λ t e. source_began l t e d)
 
--- sources = source { "," source | [ INNER ] JOIN source ON cond }
+-- sources = source { "," source | [ INNER ] JOIN source ON cond | LEFT [ OUTER ] JOIN source ON cond }
 abbrev sources_ends : List Symbol
-sources_ends = symbol.Comma ∷ symbol.Join ∷ symbol.Inner ∷ source_ends
+sources_ends = symbol.Comma ∷ symbol.Join ∷ symbol.Inner ∷ symbol.Left ∷ source_ends
 
 abbrev SourcesEnds : Token → Type 0
 SourcesEnds = AnyOf sources_ends
 
-no_join : (d : ℕ) (g : Gate) (next : Next Bool) (t : Token) (ts : List Token) → SourceEnds t → IsJoin next (t ∷ ts) → ⊥
+no_link : (d : ℕ) (g : Gate) (next : Next Link) (t : Token) (ts : List Token) → SourceEnds t → IsLink next (t ∷ ts) → ⊥
 unfolding same_symbol
-no_join d g next t ts s h = elim (join_begins d g next (t ∷ ts) h) [
-  | inl c ↦ apart symbol.Comma source_ends refl t c s
-  | inr o ↦ elim o [ inl j ↦ apart symbol.Join source_ends refl t j s | inr p ↦ elim p [ inl i ↦ apart symbol.Inner source_ends refl t i s | inr none ↦ none ] ]
-]
+no_link d g next t ts s h = disjoint links source_ends refl t (link_begins d g next (t ∷ ts) h) s
 
-source_parts : (d : ℕ) → Parts SourcesEnds SourceEnds (λ _ _. IsJoin) Sourced joins join_at (token_at (is symbol.Name)) (source_at d) d
+source_parts : (d : ℕ) → Parts SourcesEnds SourceEnds (λ _ _. IsLink) Sourced begins_link link_at (token_at (is symbol.Name)) (source_at d) d
 unfolding same_symbol
 source_parts d = record {
-  reads_sep = join_reader Nothing d;
-  no_sep = λ ts e d g next w heads h. none_other Nothing (λ _ _. IsJoin) (AnyOf (symbol.Comma ∷ symbol.Join ∷ symbol.Inner ∷ [])) joins join_begins joins_first ts e d g next w (λ a t us s n. s) heads h;
-  reads = λ joined. source_reader joined d;
-  looks = λ joined. source_look joined d;
-  ends_list = λ t e. within (symbol.Comma ∷ symbol.Join ∷ symbol.Inner ∷ []) sources_ends refl t (first_joins t e);
-  apart = no_join;
-  within = λ t s. inr (inr (inr s));
+  reads_sep = link_reader Nothing d;
+  no_sep = λ ts e d g next w heads h. none_other Nothing (λ _ _. IsLink) (AnyOf links) begins_link link_begins links_first ts e d g next w (λ a t us s n. s) heads h;
+  reads = λ l. source_reader l d;
+  looks = λ l. source_look l d;
+  ends_list = λ t e. within links sources_ends refl t (first_links t e);
+  apart = no_link;
+  within = λ t s. inr (inr (inr (inr s)));
 }
 
 pub sources_reader : (d : ℕ) → Reader SourcesEnds IsSources d (sources_at d)
 unfolding sources_at
 sources_reader d =
     let k = source_parts d in
-    let first = source_reader false d in
+    let first = source_reader link.Comma d in
     record {
-      law = λ ts. then_law SourcesEnds SourceEnds (Sourced false) (λ a. Further 64 (λ _ _. IsJoin) Sourced (a ∷ [])) d ts (source_at d false ts)
-          (λ first. more_at joins join_at (token_at (is symbol.Name)) (source_at d) 64 (length first.1) (first.0 ∷ []) first.1) (first.law ts)
+      law = λ ts. then_law SourcesEnds SourceEnds (Sourced link.Comma) (λ a. Further 64 (λ _ _. IsLink) Sourced (a ∷ [])) d ts (source_at d link.Comma ts)
+          (λ first. more_at begins_link link_at (token_at (is symbol.Name)) (source_at d) 64 (length first.1) (first.0 ∷ []) first.1) (first.law ts)
           (λ a r e. further_law 64 k (length r) (a ∷ []) r (omega arith)) (λ a. further_able 64 _ _ (a ∷ []) d)
-          (λ a d' g next avoids t us s h. more_clear SourcesEnds SourceEnds 64 (λ _ _. IsJoin) Sourced [] (λ t s. inr (inr (inr s))) no_join h.0 a d' g next avoids t us s h.1);
-      able = then_began (λ a. further_able 64 (λ _ _. IsJoin) Sourced (a ∷ []) d) first.able;
+          (λ a d' g next avoids t us s h. more_clear SourcesEnds SourceEnds 64 (λ _ _. IsLink) Sourced [] (λ t s. inr (inr (inr (inr s)))) no_link h.0 a d' g next avoids t us s h.1);
+      able = then_began (λ a. further_able 64 (λ _ _. IsLink) Sourced (a ∷ []) d) first.able;
     }
 
 -- [ WHERE cond ] and [ HAVING cond ]
@@ -271,18 +311,18 @@ abbrev FilterEnds : Token → Type 0
 FilterEnds = AnyOf (symbol.Where ∷ symbol.Point ∷ symbol.Open ∷ symbol.And ∷ symbol.Or ∷ [])
 
 filter_reader : (d : ℕ) → Reader FilterEnds IsFilter d (where_at d)
-unfolding where_at
+unfolding where_at same_symbol
 filter_reader d =
-    optional_reader FilterEnds (is symbol.Where) (sample symbol.Where) stands_where (λ d g next. IsCondition false d g (λ cond. next (Some cond))) None d _
+    optional_reader FilterEnds (is symbol.Where) (sample symbol.Where) (sample_is symbol.Where refl) (λ d g next. IsCondition false d g (λ cond. next (Some cond))) None d _
     (map_reader FilterEnds (Conds false) (λ cond. Some cond) d (condition_at false d) (wider_reader CondEnds FilterEnds (Conds false) d (condition_at false d) (λ t s. inr s) (condition_reader false d))) (λ t e. inl e)
 
 abbrev HavingEnds : Token → Type 0
 HavingEnds = AnyOf (symbol.Having ∷ symbol.Point ∷ symbol.Open ∷ symbol.And ∷ symbol.Or ∷ [])
 
 having_reader : (d : ℕ) → Reader HavingEnds IsHaving d (having_at d)
-unfolding having_at
+unfolding having_at same_symbol
 having_reader d =
-    optional_reader HavingEnds (is symbol.Having) (sample symbol.Having) stands_having (λ d g next. IsCondition true d g (λ cond. next (Some cond))) None d _
+    optional_reader HavingEnds (is symbol.Having) (sample symbol.Having) (sample_is symbol.Having refl) (λ d g next. IsCondition true d g (λ cond. next (Some cond))) None d _
     (map_reader HavingEnds (Conds true) (λ cond. Some cond) d (condition_at true d) (wider_reader CondEnds HavingEnds (Conds true) d (condition_at true d) (λ t s. inr s) (condition_reader true d))) (λ t e. inl e)
 
 -- [ GROUP BY column { "," column } ]
@@ -305,9 +345,9 @@ GroupEnds = AnyOf (symbol.Group ∷ symbol.Comma ∷ symbol.Point ∷ [])
 groups_reader : (d : ℕ) → Reader GroupEnds (λ _ g. IsGroups g) d groups_at
 unfolding groups_at same_symbol
 groups_reader d =
-    optional_reader GroupEnds (is symbol.Group) (sample symbol.Group) stands_group (λ _ g next. Is (is symbol.By) (λ _. IsList g 64 IsColumn (is symbol.Comma) next)) [] d (λ ts. token_at (is symbol.By) ts >>= λ by. list_at (is symbol.Comma) (token_at (is symbol.Name)) column_at 64 by.1)
-    (symbol_reader GroupEnds symbol.By stands_by _ d _ (λ _.
-    list_reader GroupEnds ColumnEnds (λ _ _. IsColumn) (is symbol.Comma) (sample symbol.Comma) stands_comma (token_at (is symbol.Name)) 64 d column_at (columns d) (column_look d)
+    optional_reader GroupEnds (is symbol.Group) (sample symbol.Group) (sample_is symbol.Group refl) (λ _ g next. Is (is symbol.By) (λ _. IsList g 64 IsColumn (is symbol.Comma) next)) [] d (λ ts. token_at (is symbol.By) ts >>= λ by. list_at (is symbol.Comma) (token_at (is symbol.Name)) column_at 64 by.1)
+    (symbol_reader GroupEnds symbol.By refl _ d _ (λ _.
+    list_reader GroupEnds ColumnEnds (λ _ _. IsColumn) (is symbol.Comma) (sample symbol.Comma) (sample_is symbol.Comma refl) (token_at (is symbol.Name)) 64 d column_at (columns d) (column_look d)
     (λ t e. inr (inl e)) (λ t s e. apart symbol.Comma (symbol.Point ∷ []) refl t e s) (λ t s. inr (inr s))))
     (λ t e. inl e)
 
@@ -329,8 +369,8 @@ direction_reader S inS d =
       to = λ d g next ts h. elim h [ inl o ↦ elim o [ inl a ↦ inl a | inr b ↦ inr (inl b) ] | inr c ↦ inr (inr c) ];
       from = λ d g next ts h. elim h [ inl a ↦ inl (inl a) | inr o ↦ elim o [ inl b ↦ inl (inr b) | inr c ↦ inr c ] ];
     })
-    (behind_reader S (is symbol.Desc) (sample symbol.Desc) stands_desc (λ _ _ next. next true) AscOr d (λ r. Ok (true, r)) _ (pure_reader S d true)
-    (optional_reader S (is symbol.Asc) (sample symbol.Asc) stands_asc Ascending false d (λ r. Ok (false, r)) (pure_reader S d false) (λ t e. inS t (inl e)))
+    (behind_reader S (is symbol.Desc) (sample symbol.Desc) (sample_is symbol.Desc refl) (λ _ _ next. next true) AscOr d (λ r. Ok (true, r)) _ (pure_reader S d true)
+    (optional_reader S (is symbol.Asc) (sample symbol.Asc) (sample_is symbol.Asc refl) Ascending false d (λ r. Ok (false, r)) (pure_reader S d false) (λ t e. inS t (inl e)))
     (λ ts e. or_other S Ascending (Then (λ _ _. Is (is symbol.Asc)) (λ _. Ascending)) ts (none_stops S (is symbol.Desc) false (λ t e. inS t (inr (inl e))) ts e)
     (bars S (Then (λ _ _. Is (is symbol.Asc)) (λ _. Ascending)) (λ t. is symbol.Asc t ≡ true) (is symbol.Desc) asc_begins (λ t e a. not_both symbol.Desc symbol.Asc t refl e a) ts e)))
   where
@@ -369,9 +409,9 @@ OrderEnds = AnyOf (symbol.Order ∷ symbol.Comma ∷ symbol.Point ∷ symbol.Ope
 orders_reader : (d : ℕ) → Reader OrderEnds (λ _ g. IsOrders g) d orders_at
 unfolding orders_at same_symbol
 orders_reader d =
-    optional_reader OrderEnds (is symbol.Order) (sample symbol.Order) stands_order (λ _ g next. Is (is symbol.By) (λ _. IsList g 64 IsKey (is symbol.Comma) next)) [] d (λ ts. token_at (is symbol.By) ts >>= λ by. list_at (is symbol.Comma) (token_at (is symbol.Name)) key_at 64 by.1)
-    (symbol_reader OrderEnds symbol.By stands_by _ d _ (λ _.
-    list_reader OrderEnds KeyEnds (λ _ _. IsKey) (is symbol.Comma) (sample symbol.Comma) stands_comma (token_at (is symbol.Name)) 64 d key_at (key_reader d) (key_look d)
+    optional_reader OrderEnds (is symbol.Order) (sample symbol.Order) (sample_is symbol.Order refl) (λ _ g next. Is (is symbol.By) (λ _. IsList g 64 IsKey (is symbol.Comma) next)) [] d (λ ts. token_at (is symbol.By) ts >>= λ by. list_at (is symbol.Comma) (token_at (is symbol.Name)) key_at 64 by.1)
+    (symbol_reader OrderEnds symbol.By refl _ d _ (λ _.
+    list_reader OrderEnds KeyEnds (λ _ _. IsKey) (is symbol.Comma) (sample symbol.Comma) (sample_is symbol.Comma refl) (token_at (is symbol.Name)) 64 d key_at (key_reader d) (key_look d)
     (λ t e. inr (inl e)) (λ t s e. apart symbol.Comma (symbol.Point ∷ symbol.Open ∷ symbol.Asc ∷ symbol.Desc ∷ []) refl t e s) (λ t s. inr (inr s))))
     (λ t e. inl e)
 
@@ -432,7 +472,7 @@ ending_reader : (s : Select) (d : ℕ) → Reader Nothing (Ending s) d (ending_a
 unfolding same_symbol
 ending_reader s d =
     then_reader Nothing (AnyOf (symbol.Semicolon ∷ [])) (λ _ _. IsOptional (is symbol.Semicolon)) (λ _ _ _ next. Is (is symbol.End) (λ _. next s)) d (λ ts. Ok (optional_at (is symbol.Semicolon) ts)) (λ semicolon. token_at (is symbol.End) semicolon.1 >>= λ end. Ok (s, end.1))
-    (maybe_reader (AnyOf (symbol.Semicolon ∷ [])) (is symbol.Semicolon) (sample symbol.Semicolon) stands_semicolon d (λ t e. inl e)) (λ _. symbol_reader Nothing symbol.End stands_end _ d _ (λ _. pure_reader Nothing d s))
+    (maybe_reader (AnyOf (symbol.Semicolon ∷ [])) (is symbol.Semicolon) (sample symbol.Semicolon) (sample_is symbol.Semicolon refl) d (λ t e. inl e)) (λ _. symbol_reader Nothing symbol.End refl _ d _ (λ _. pure_reader Nothing d s))
     (λ a d' g next avoids t ts k h. apart symbol.End (symbol.Semicolon ∷ []) refl t h.0 k)
 
 ordered_reader : (f : List OrderItem → Select) (d : ℕ) → Reader Nothing (Ordered f) d (ordered_at f)
@@ -484,11 +524,11 @@ after_distinct_at d distinct = items_at distinct.1 >>= λ items. after_items_at 
 pub select_reader : (d : ℕ) → Reader Nothing IsSelect d (select_at d)
 unfolding select_at same_symbol
 select_reader d =
-    symbol_reader Nothing symbol.Select stands_select _ d _ (λ _.
+    symbol_reader Nothing symbol.Select refl _ d _ (λ _.
     then_reader Nothing (AnyOf (symbol.Distinct ∷ [])) (λ _ _. IsOptional (is symbol.Distinct)) after_distinct d (λ ts. Ok (optional_at (is symbol.Distinct) ts)) (after_distinct_at d)
-    (maybe_reader (AnyOf (symbol.Distinct ∷ [])) (is symbol.Distinct) (sample symbol.Distinct) stands_distinct d (λ t e. inl e))
+    (maybe_reader (AnyOf (symbol.Distinct ∷ [])) (is symbol.Distinct) (sample symbol.Distinct) (sample_is symbol.Distinct refl) d (λ t e. inl e))
     (λ distinct. then_reader Nothing ItemsEnds (λ _ g. IsItems g) (after_items distinct) d items_at (after_items_at d distinct) (items_reader d)
-    (λ items. symbol_reader Nothing symbol.From stands_from _ d _ (λ _.
+    (λ items. symbol_reader Nothing symbol.From refl _ d _ (λ _.
     then_reader Nothing SourcesEnds IsSources (λ sources. Filtered (made distinct items sources)) d (sources_at d) (λ sources. filtered_at d (made distinct items sources.0) sources.1) (sources_reader d) (λ sources. filtered_reader (made distinct items sources) d)
     (λ a d' g next avoids t ts k h. disjoint sources_ends (symbol.Where ∷ symbol.Group ∷ symbol.Having ∷ symbol.Order ∷ symbol.Semicolon ∷ symbol.End ∷ []) refl t k (filtered_begins (made distinct items a) d' g next (t ∷ ts) h))))
     (λ a d' g next avoids t ts k h. apart symbol.From (symbol.Point ∷ symbol.Open ∷ symbol.Name ∷ symbol.As ∷ symbol.Comma ∷ []) refl t h.0 k))

@@ -1,24 +1,14 @@
 -- What stops the reading of a list.
-use Rattle.std.proofs.Common.{◌≡◌, ◌+◌, ℕ, Bool, true, List, [], ◌∷◌, length, Result, Ok, Err, refl}
+use Rattle.std.proofs.Common.{◌≡◌, List, [], ◌∷◌, length, Ok}
 use Rattle.pm_lexer.specs.declared.token.Token.{Token}
-use Rattle.pm_grammar.specs.Reading.{Stop, expected, too_deep, too_many, Read, ◌>>=◌, sees, token_at, more_at, list_at}
-use Rattle.pm_grammar.proofs.Turns.{more_goes}
-use Rattle.pm_syntax.specs.declared.fault.SynBad.{SynBad}
-use Rattle.pm_syntax.specs.declared.fault.SynBad.TheVariants as bad
+use Rattle.pm_grammar.specs.Reading.{Read, token_at, more_at, list_at}
+use Rattle.pm_grammar.specs.Outcome.{Fails}
+use Rattle.pm_grammar.proofs.Outcomes.{bind_fails}
+use Rattle.pm_grammar.specs.declared.fault.SynBad.{SynBad}
 use Rattle.pm_lexer.specs.declared.symbol.Symbol.TheVariants as symbol
 use Rattle.pm_lexer.specs.Symbol.{is}
 use Rattle.pm_syntax.specs.declared.tree.Test.{Test}
-use Rattle.pm_syntax.specs.Reading.{Fails, ands_at, cond_at}
-
--- what stops one reading stops the other
-pub fails_through : {A B : Type 0} (e : SynBad) (r : Result A Stop) (s : Result B Stop) → ((stop : Stop) → r ≡ Err stop → s ≡ Err stop) → Fails e r → Fails e s
-fails_through bad.Memory r s h f = tt
-fails_through (bad.Expected at) r s h f = h (expected at) f
-fails_through (bad.TooDeep at) r s h f = h (too_deep at) f
-fails_through (bad.TooMany at) r s h f = h (too_many at) f
-
-bind_fails : {A B : Type 0} (r : Read A) (f : A × List Token → Read B) (e : SynBad) → Fails e r → Fails e (r >>= f)
-bind_fails r f e h = fails_through e r (r >>= f) (λ stop is. rw is refl) h
+use Rattle.pm_syntax.specs.Reading.{ands_at, cond_at}
 
 -- further members failed
 pub ands_fail : (peek : List Token → Read Token) (p : List Token → Read Test) (ts : List Token) (a : Test) (r : List Token) (e : SynBad) → p ts ≡ Ok (a, r)
@@ -30,8 +20,3 @@ pub cond_fails : (peek : List Token → Read Token) (p : List Token → Read Tes
     → Fails e (more_at (is symbol.Or) (token_at (is symbol.Or)) peek (λ _. ands_at peek p) 256 (length r) (a ∷ []) r) → Fails e (cond_at peek p ts)
 unfolding cond_at list_at
 cond_fails peek p ts a r e h f = rw h (bind_fails (more_at (is symbol.Or) (token_at (is symbol.Or)) peek (λ _. ands_at peek p) 256 (length r) (a ∷ []) r) _ e f)
-
--- the separator failed
-pub sep_fails : {A S : Type 0} (starts : Token → Bool) (sep : List Token → Read S) (peek : List Token → Read Token) (p : S → List Token → Read A) (limit n m : ℕ) (before : List A) (ts : List Token) (e : SynBad)
-    → n ≡ m + 1 → sees starts ts ≡ true → Fails e (sep ts) → Fails e (more_at starts sep peek p limit n before ts)
-sep_fails starts sep peek p limit n m before ts e is f h = fails_through e (sep ts) _ (λ stop fails. rw (more_goes starts sep peek p limit n m before ts is f, fails) refl) h

@@ -5,8 +5,8 @@ use Rattle.pm_lexer.specs.declared.symbol.Symbol.{Symbol}
 use Rattle.pm_lexer.specs.declared.symbol.Symbol.TheVariants as symbol
 use Rattle.pm_lexer.specs.Symbol.{same_symbol, is}
 use Rattle.pm_lexer.specs.Pieces.{content_of, decimals_len}
-use Rattle.pm_grammar.specs.Language.{Gate, Is, IsList}
-use Rattle.pm_grammar.specs.Reading.{◌>>=◌, token_at}
+use Rattle.pm_grammar.specs.Language.{Gate, Is, IsList, IsOptional}
+use Rattle.pm_grammar.specs.Reading.{◌>>=◌, token_at, optional_at}
 use Rattle.pm_grammar.proofs.Phrases.{Phrase, Next, Reader, Nothing, Began}
 use Rattle.pm_grammar.proofs.Readers.{Then, Or, pure_reader, then_reader, then_began, same_reader, map_reader, token_reader, first_began, second_began}
 use Rattle.pm_grammar.proofs.Lists.{Peek}
@@ -18,12 +18,12 @@ use Rattle.pm_syntax.specs.declared.tree.Atom.{Atom}
 use Rattle.pm_syntax.specs.declared.tree.Atom.TheVariants as atom
 use Rattle.pm_syntax.specs.declared.tree.Test.{Test}
 use Rattle.pm_syntax.specs.declared.tree.Test.TheVariants as test
-use Rattle.pm_syntax.specs.Terminals.{comparison_of, comparison_of_symbol, compares, magnitude}
-use Rattle.pm_syntax.specs.Grammar.{IsLiteral, IsOperand, IsOptional, IsCompare, IsNullTest, IsIn, IsBetween, IsTest}
-use Rattle.pm_syntax.specs.Reading.{literal_at, operand_at, optional_at, literals_at, compare_behind, null_behind, in_behind, between_behind, range_behind, test_behind, test_at, begins_literal, begins_test}
-use Rattle.pm_syntax.proofs.Tokens.{is_symbol, sample, stands_open, stands_close, stands_comma, equal_compares, stands_is, stands_not, stands_null, stands_in, stands_between, stands_and, stands_number, symbol_reader}
-use Rattle.pm_syntax.proofs.Sets.{AnyOf, none_other, apart}
-use Rattle.pm_syntax.proofs.Helpers.{maybe_reader}
+use Rattle.pm_syntax.specs.Terminals.{comparison_of, comparison_of_symbol, compares, magnitude, begins_literal, begins_test}
+use Rattle.pm_syntax.specs.Grammar.{IsLiteral, IsOperand, IsCompare, IsNullTest, IsIn, IsBetween, IsTest}
+use Rattle.pm_syntax.specs.Reading.{literal_at, operand_at, literals_at, compare_after, null_after, in_after, between_after, range_after, test_after, test_at}
+use Rattle.pm_grammar.proofs.Symbols.{is_symbol, sample, sample_is, symbol_reader}
+use Rattle.pm_grammar.proofs.Sets.{AnyOf, none_other, apart}
+use Rattle.pm_grammar.proofs.Helpers.{maybe_reader}
 use Rattle.pm_syntax.proofs.ExprReaders.{LiteralFirst, literal_begins, literal_reader, OperandFirst, operand_begins, operand_reader, Termed, Literals, term_began}
 
 -- a literal may begin with each of its first tokens
@@ -57,8 +57,9 @@ first_literal t h = elim h [
 ]
 
 pub literal_began : (t : Token) → LiteralFirst t → (d : ℕ) → Began (λ _ _. IsLiteral) d [] (t ∷ [])
+unfolding same_symbol
 literal_began t h d = elim h [
-  | inl m ↦ record { more = sample symbol.Number ∷ []; value = literal.Number (neg_ℤ (pos (magnitude (sample symbol.Number)))) (decimals_len (sample symbol.Number).slice); ends = λ d' g next v le o k. inr (inl (m, (stands_number, k))) }
+  | inl m ↦ record { more = sample symbol.Number ∷ []; value = literal.Number (neg_ℤ (pos (magnitude (sample symbol.Number)))) (decimals_len (sample symbol.Number).slice); ends = λ d' g next v le o k. inr (inl (m, (sample_is symbol.Number refl, k))) }
   | inr a ↦ elim a [
     | inl x ↦ record { more = []; value = literal.Text (content_of t); ends = λ d' g next v le o k. inr (inr (inl (x, k))) }
     | inr b ↦ elim b [
@@ -76,8 +77,8 @@ abbrev pub CommaOnly : Token → Type 0
 CommaOnly = AnyOf (symbol.Comma ∷ [])
 
 literals_reader : (d : ℕ) → Reader CommaOnly (λ d g. IsList g 256 IsLiteral (is symbol.Comma)) d literals_at
-unfolding literals_at
-literals_reader d = list_reader CommaOnly Nothing (λ _ _. IsLiteral) (is symbol.Comma) (sample symbol.Comma) stands_comma (token_at begins_literal) 256 d literal_at (literal_reader Nothing d) (literal_peek Nothing d)
+unfolding literals_at same_symbol
+literals_reader d = list_reader CommaOnly Nothing (λ _ _. IsLiteral) (is symbol.Comma) (sample symbol.Comma) (sample_is symbol.Comma refl) (token_at begins_literal) 256 d literal_at (literal_reader Nothing d) (literal_peek Nothing d)
     (λ t e. inl e) (λ t s e. s) (λ t s. absurd s)
 
 -- what may not follow an operand
@@ -91,11 +92,15 @@ operands S inS grouped d = operand_reader S (λ t e. inS t (inl e)) (λ t e. inS
 no_comparison : (s : Symbol) → comparison_of_symbol s ≡ None → (t : Token) → compares t ≡ true → is s t ≡ true → ⊥
 no_comparison s none t c e = let no' : is_some (comparison_of_symbol s) ≡ true = rw (is_symbol s t e) at c in let f : false ≡ true = rw none at no' in cc
 
+equal_compares : compares (sample symbol.Equal) ≡ true
+unfolding same_symbol
+equal_compares = rw (is_symbol symbol.Equal (sample symbol.Equal) (sample_is symbol.Equal refl)) refl
+
 abbrev Compares : Bool → Atom → Phrase Test
 Compares grouped of _ _ = IsCompare grouped of
 
-compare_reader : (S : Token → Type 0) → ((t : Token) → OperandEnds t → S t) → (grouped : Bool) (left : Atom) (d : ℕ) → Reader S (Compares grouped left) d (compare_behind grouped left)
-unfolding compare_behind
+compare_reader : (S : Token → Type 0) → ((t : Token) → OperandEnds t → S t) → (grouped : Bool) (left : Atom) (d : ℕ) → Reader S (Compares grouped left) d (compare_after grouped left)
+unfolding compare_after
 compare_reader S inS grouped left d =
     token_reader S compares (sample symbol.Equal) equal_compares _ d _
     (λ sign. map_reader S (λ _ _. IsOperand grouped) (λ right. test.Compare (unwrap_or (comparison_of sign) comparison.Equal) left right sign.at) d (operand_at grouped) (operands S inS grouped d))
@@ -104,15 +109,15 @@ abbrev NotOnly : Token → Type 0
 NotOnly = AnyOf (symbol.Not ∷ [])
 
 -- [ NOT ] NULL, behind IS
-abbrev NullBehind : Atom → Phrase Test
-NullBehind of _ _ next = IsOptional (is symbol.Not) (λ negation. Is (is symbol.Null) (λ _. next (test.IsNull of (is_some negation))))
+abbrev NullAfter : Atom → Phrase Test
+NullAfter of _ _ next = IsOptional (is symbol.Not) (λ negation. Is (is symbol.Null) (λ _. next (test.IsNull of (is_some negation))))
 
-null_reader : (S : Token → Type 0) (of : Atom) (d : ℕ) → Reader S (NullBehind of) d (null_behind of)
-unfolding null_behind same_symbol
+null_reader : (S : Token → Type 0) (of : Atom) (d : ℕ) → Reader S (NullAfter of) d (null_after of)
+unfolding null_after same_symbol
 null_reader S of d =
     then_reader S NotOnly (λ _ _. IsOptional (is symbol.Not)) (λ negation _ _ next. Is (is symbol.Null) (λ _. next (test.IsNull of (is_some negation)))) d (λ ts. Ok (optional_at (is symbol.Not) ts)) (λ negation. token_at (is symbol.Null) negation.1 >>= λ null. Ok (test.IsNull of (is_some negation.0), null.1))
-    (maybe_reader NotOnly (is symbol.Not) (sample symbol.Not) stands_not d (λ t e. inl e))
-    (λ negation. symbol_reader S symbol.Null stands_null _ d _ (λ _. pure_reader S d (test.IsNull of (is_some negation))))
+    (maybe_reader NotOnly (is symbol.Not) (sample symbol.Not) (sample_is symbol.Not refl) d (λ t e. inl e))
+    (λ negation. symbol_reader S symbol.Null refl _ d _ (λ _. pure_reader S d (test.IsNull of (is_some negation))))
     (λ a d' g next avoids t ts s h. elim s [ inl e ↦ not_both symbol.Not symbol.Null t refl e h.0 | inr none ↦ none ])
 
 -- IN and BETWEEN, behind an operand and its NOT
@@ -122,22 +127,22 @@ Ins of negation _ g = IsIn g of negation
 abbrev Betweens : Bool → Atom → Option Token → Phrase Test
 Betweens grouped of negation _ _ = IsBetween grouped of negation
 
-in_reader : (S : Token → Type 0) (of : Atom) (negation : Option Token) (d : ℕ) → Reader S (Ins of negation) d (λ ts. token_at (is symbol.In) ts >>= λ word. in_behind of negation word.0 word.1)
-unfolding in_behind same_symbol
+in_reader : (S : Token → Type 0) (of : Atom) (negation : Option Token) (d : ℕ) → Reader S (Ins of negation) d (λ ts. token_at (is symbol.In) ts >>= λ word. in_after of negation word.0 word.1)
+unfolding in_after same_symbol
 in_reader S of negation d =
-    symbol_reader S symbol.In stands_in _ d _ (λ word. symbol_reader S symbol.Open stands_open _ d _ (λ _.
+    symbol_reader S symbol.In refl _ d _ (λ word. symbol_reader S symbol.Open refl _ d _ (λ _.
     then_reader S CommaOnly (λ d g. IsList g 256 IsLiteral (is symbol.Comma)) (λ list _ _ next. Is (is symbol.Close) (λ _. next (test.OneOf of list (is_some negation) (unwrap_or negation word).at))) d literals_at _ (literals_reader d)
-    (λ list. symbol_reader S symbol.Close stands_close _ d _ (λ _. pure_reader S d (test.OneOf of list (is_some negation) (unwrap_or negation word).at)))
+    (λ list. symbol_reader S symbol.Close refl _ d _ (λ _. pure_reader S d (test.OneOf of list (is_some negation) (unwrap_or negation word).at)))
     (λ a d' g next avoids t ts s h. elim s [ inl e ↦ not_both symbol.Comma symbol.Close t refl e h.0 | inr none ↦ none ])))
 
 between_reader : (S : Token → Type 0) → ((t : Token) → OperandEnds t → S t) → (grouped : Bool) (of : Atom) (negation : Option Token) (d : ℕ)
-    → Reader S (Betweens grouped of negation) d (λ ts. token_at (is symbol.Between) ts >>= λ word. between_behind grouped of negation word.0 word.1)
-unfolding between_behind same_symbol
+    → Reader S (Betweens grouped of negation) d (λ ts. token_at (is symbol.Between) ts >>= λ word. between_after grouped of negation word.0 word.1)
+unfolding between_after same_symbol
 between_reader S inS grouped of negation d =
-    symbol_reader S symbol.Between stands_between _ d _ (λ word.
+    symbol_reader S symbol.Between refl _ d _ (λ word.
     then_reader S OperandEnds (λ _ _. IsOperand grouped) (λ low _ _ next. Is (is symbol.And) (λ _. IsOperand grouped (λ high. next (test.Between of low high (is_some negation) (unwrap_or negation word).at)))) d (operand_at grouped) _
     (operands OperandEnds (λ t e. e) grouped d)
-    (λ low. symbol_reader S symbol.And stands_and _ d _ (λ _.
+    (λ low. symbol_reader S symbol.And refl _ d _ (λ _.
     map_reader S (λ _ _. IsOperand grouped) (λ high. test.Between of low high (is_some negation) (unwrap_or negation word).at) d (operand_at grouped) (operands S inS grouped d)))
     (λ a d' g next avoids t ts s h. apart symbol.And (symbol.Point ∷ symbol.Open ∷ []) refl t h.0 s))
 
@@ -152,8 +157,8 @@ between_begins grouped of negation d g next (t ∷ ts) h = inl h.0
 abbrev Ranges : Bool → Atom → Option Token → Phrase Test
 Ranges grouped of negation = Or (Ins of negation) (Betweens grouped of negation)
 
-range_reader : (S : Token → Type 0) → ((t : Token) → OperandEnds t → S t) → (grouped : Bool) (of : Atom) (negation : Option Token) (d : ℕ) → Reader S (Ranges grouped of negation) d (range_behind grouped of negation)
-unfolding range_behind same_symbol
+range_reader : (S : Token → Type 0) → ((t : Token) → OperandEnds t → S t) → (grouped : Bool) (of : Atom) (negation : Option Token) (d : ℕ) → Reader S (Ranges grouped of negation) d (range_after grouped of negation)
+unfolding range_after same_symbol
 range_reader S inS grouped of negation d =
     choice_reader S (Ins of negation) (Betweens grouped of negation) (is symbol.In) d _ _ (in_reader S of negation d) (between_reader S inS grouped of negation d)
     (bars S (Betweens grouped of negation) (AnyOf (symbol.Between ∷ [])) (is symbol.In) (between_begins grouped of negation) (λ t e h. apart symbol.In (symbol.Between ∷ []) refl t e h))
@@ -176,18 +181,19 @@ range_clear grouped of negation d g next t ts s h =
     elim s [ inl e ↦ elim h [ inl i ↦ not_both symbol.Not symbol.In t refl e i.0 | inr b ↦ not_both symbol.Not symbol.Between t refl e b.0 ] | inr none ↦ none ]
 
 not_range_reader : (S : Token → Type 0) → ((t : Token) → OperandEnds t → S t) → (grouped : Bool) (of : Atom) (d : ℕ)
-    → Reader S (NotRanges grouped of) d (λ ts. let negation = optional_at (is symbol.Not) ts in range_behind grouped of negation.0 negation.1)
+    → Reader S (NotRanges grouped of) d (λ ts. let negation = optional_at (is symbol.Not) ts in range_after grouped of negation.0 negation.1)
+unfolding same_symbol
 not_range_reader S inS grouped of d =
-    then_reader S NotOnly (λ _ _. IsOptional (is symbol.Not)) (Ranges grouped of) d (λ ts. Ok (optional_at (is symbol.Not) ts)) (λ negation. range_behind grouped of negation.0 negation.1)
-    (maybe_reader NotOnly (is symbol.Not) (sample symbol.Not) stands_not d (λ t e. inl e)) (λ negation. range_reader S inS grouped of negation d)
+    then_reader S NotOnly (λ _ _. IsOptional (is symbol.Not)) (Ranges grouped of) d (λ ts. Ok (optional_at (is symbol.Not) ts)) (λ negation. range_after grouped of negation.0 negation.1)
+    (maybe_reader NotOnly (is symbol.Not) (sample symbol.Not) (sample_is symbol.Not refl) d (λ t e. inl e)) (λ negation. range_reader S inS grouped of negation d)
     (λ a d' g next avoids t ts s h. range_clear grouped of a d' g next t ts s h)
 
 -- what stands behind the first operand of a test
 abbrev NullsOr : Bool → Atom → Phrase Test
-NullsOr grouped of = Or (NotRanges grouped of) (Then (λ _ _. Is (is symbol.Is)) (λ _. NullBehind of))
+NullsOr grouped of = Or (NotRanges grouped of) (Then (λ _ _. Is (is symbol.Is)) (λ _. NullAfter of))
 
-abbrev pub TestBehind : Bool → Atom → Phrase Test
-TestBehind grouped of d g next ts = IsCompare grouped of next ts ⊎ IsNullTest of next ts ⊎ IsOptional (is symbol.Not) (λ negation ts. IsIn g of negation next ts ⊎ IsBetween grouped of negation next ts) ts
+abbrev pub TestAfter : Bool → Atom → Phrase Test
+TestAfter grouped of d g next ts = IsCompare grouped of next ts ⊎ IsNullTest of next ts ⊎ IsOptional (is symbol.Not) (λ negation ts. IsIn g of negation next ts ⊎ IsBetween grouped of negation next ts) ts
 
 nulls_or_begin : (grouped : Bool) (of : Atom) → BeginsWith (NullsOr grouped of) (AnyOf (symbol.Is ∷ symbol.Not ∷ symbol.In ∷ symbol.Between ∷ []))
 nulls_or_begin grouped of d g next [] h = elim h [ inl r ↦ not_ranges_begin grouped of d g next [] r | inr i ↦ i ]
@@ -203,22 +209,22 @@ compare_begins : (grouped : Bool) (of : Atom) → BeginsWith (Compares grouped o
 compare_begins grouped of d g next [] h = h
 compare_begins grouped of d g next (t ∷ ts) h = h.0
 
-test_behind_reader : (S : Token → Type 0) → ((t : Token) → OperandEnds t → S t) → (grouped : Bool) (of : Atom) (d : ℕ) → Reader S (TestBehind grouped of) d (test_behind grouped of)
-unfolding test_behind same_symbol
-test_behind_reader S inS grouped of d =
-    same_reader S (Or (Compares grouped of) (NullsOr grouped of)) (TestBehind grouped of) d _
+test_after_reader : (S : Token → Type 0) → ((t : Token) → OperandEnds t → S t) → (grouped : Bool) (of : Atom) (d : ℕ) → Reader S (TestAfter grouped of) d (test_after grouped of)
+unfolding test_after same_symbol
+test_after_reader S inS grouped of d =
+    same_reader S (Or (Compares grouped of) (NullsOr grouped of)) (TestAfter grouped of) d _
     (record {
       to = λ d g next ts h. elim h [ inl c ↦ inl c | inr o ↦ elim o [ inl r ↦ inr (inr r) | inr n ↦ inr (inl n) ] ];
       from = λ d g next ts h. elim h [ inl c ↦ inl c | inr o ↦ elim o [ inl n ↦ inr (inr n) | inr r ↦ inr (inl r) ] ];
     })
     (choice_reader S (Compares grouped of) (NullsOr grouped of) compares d _ _ (compare_reader S inS grouped of d)
-    (behind_reader S (is symbol.Is) (sample symbol.Is) stands_is (NullBehind of) (NotRanges grouped of) d _ _ (null_reader S of d) (not_range_reader S inS grouped of d)
+    (behind_reader S (is symbol.Is) (sample symbol.Is) (sample_is symbol.Is refl) (NullAfter of) (NotRanges grouped of) d _ _ (null_reader S of d) (not_range_reader S inS grouped of d)
     (bars S (NotRanges grouped of) RangeFirst (is symbol.Is) (not_ranges_begin grouped of) (λ t e h. apart symbol.Is (symbol.Not ∷ symbol.In ∷ symbol.Between ∷ []) refl t e h)))
     (bars S (NullsOr grouped of) (AnyOf (symbol.Is ∷ symbol.Not ∷ symbol.In ∷ symbol.Between ∷ [])) compares (nulls_or_begin grouped of) no_sign)
     (none_other S (Compares grouped of) (λ t. compares t ≡ true) compares (compare_begins grouped of) (λ t e. e)))
 
 -- an operand's end is no beginning of what stands behind it
-test_clear : (S : Token → Type 0) (grouped : Bool) (of : Atom) (d : ℕ) (g : Gate) (next : Next Test) (t : Token) (ts : List Token) → OperandEnds t → TestBehind grouped of d g next (t ∷ ts) → ⊥
+test_clear : (S : Token → Type 0) (grouped : Bool) (of : Atom) (d : ℕ) (g : Gate) (next : Next Test) (t : Token) (ts : List Token) → OperandEnds t → TestAfter grouped of d g next (t ∷ ts) → ⊥
 unfolding same_symbol
 test_clear S grouped of d g next t ts s h =
     elim h [
@@ -238,15 +244,15 @@ Tests grouped _ g = IsTest grouped g
 pub test_reader : (S : Token → Type 0) → ((t : Token) → OperandEnds t → S t) → (grouped : Bool) (d : ℕ) → Reader S (Tests grouped) d (test_at grouped)
 unfolding test_at
 test_reader S inS grouped d =
-    then_reader S OperandEnds (λ _ _. IsOperand grouped) (TestBehind grouped) d (operand_at grouped) _ (operands OperandEnds (λ t e. e) grouped d) (λ of. test_behind_reader S inS grouped of d)
+    then_reader S OperandEnds (λ _ _. IsOperand grouped) (TestAfter grouped) d (operand_at grouped) _ (operands OperandEnds (λ t e. e) grouped d) (λ of. test_after_reader S inS grouped of d)
     (λ a d' g next avoids t ts s h. test_clear S grouped a d' g next t ts s h)
 
 pub test_begins : (grouped : Bool) → BeginsWith (Tests grouped) OperandFirst
-test_begins grouped d g next w h = operand_begins grouped d g (λ of. TestBehind grouped of d g next) w h
+test_begins grouped d g next w h = operand_begins grouped d g (λ of. TestAfter grouped of d g next) w h
 
 -- a test may begin with each first token of an operand
 pub test_began : (grouped : Bool) (t : Token) → OperandFirst t → (d : ℕ) → Began (Tests grouped) d [] (t ∷ [])
-test_began grouped t h d = then_began (λ of. (test_behind_reader OperandEnds (λ t e. e) grouped of d).able) (operand_began t h)
+test_began grouped t h d = then_began (λ of. (test_after_reader OperandEnds (λ t e. e) grouped of d).able) (operand_began t h)
   where
     atoms : Began (λ _ _. IsLiteral) d [] (t ∷ []) → Began (λ _ _. IsOperand grouped) d [] (t ∷ [])
     atoms b = second_began (Termed grouped) Literals (record { more = b.more; value = atom.Literal b.value; ends = λ d' g next v le o k. b.ends d' g (λ l. next (atom.Literal l)) v le o k })

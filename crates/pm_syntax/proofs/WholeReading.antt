@@ -8,10 +8,11 @@ use Rattle.pm_grammar.proofs.Phrases.{Law, Nothing}
 use Rattle.pm_grammar.proofs.Called.{law_calls}
 use Rattle.pm_grammar.proofs.Exclusive.{answers_same}
 use Rattle.pm_syntax.specs.declared.tree.Select.{Select}
-use Rattle.pm_syntax.specs.declared.fault.SynBad.{SynBad}
-use Rattle.pm_syntax.specs.declared.fault.SynBad.TheVariants as bad
+use Rattle.pm_grammar.specs.declared.fault.SynBad.{SynBad}
+use Rattle.pm_grammar.specs.declared.fault.SynBad.TheVariants as bad
 use Rattle.pm_syntax.specs.Grammar.{IsSelect}
-use Rattle.pm_syntax.specs.Reading.{select_at, Gives}
+use Rattle.pm_syntax.specs.Reading.{select_at}
+use Rattle.pm_grammar.specs.Outcome.{Gives}
 use Rattle.pm_syntax.specs.Statement.{CallsFor}
 use Rattle.pm_syntax.specs.Worked.{TextCallsFor}
 use Rattle.pm_syntax.proofs.SelectReaders.{select_reader}

@@ -7,8 +7,9 @@ use Rattle.pm_lexer.specs.declared.token.Token.{Token}
 use Rattle.pm_lexer.specs.declared.symbol.Symbol.TheVariants as symbol
 use Rattle.pm_lexer.specs.Symbol.{is}
 use Rattle.pm_lexer.specs.Pieces.{content_of, decimals_len}
-use Rattle.pm_grammar.specs.Language.{Lang, Gate, Is, IsFurther, IsList}
-use Rattle.pm_syntax.specs.declared.tree.PlacedName.{PlacedName}
+use Rattle.pm_grammar.specs.Language.{Lang, Gate, Is, IsFurther, IsList, IsOptional}
+use Rattle.pm_grammar.specs.Reading.{named}
+use Rattle.pm_grammar.specs.declared.names.PlacedName.{PlacedName}
 use Rattle.pm_syntax.specs.declared.tree.ColumnName.{ColumnName}
 use Rattle.pm_syntax.specs.declared.tree.Func.{Func}
 use Rattle.pm_syntax.specs.declared.tree.Func.TheVariants as func
@@ -18,6 +19,8 @@ use Rattle.pm_syntax.specs.declared.tree.Item.{Item}
 use Rattle.pm_syntax.specs.declared.tree.Items.{Items}
 use Rattle.pm_syntax.specs.declared.tree.Items.TheVariants as items
 use Rattle.pm_syntax.specs.declared.tree.Source.{Source}
+use Rattle.pm_syntax.specs.declared.tree.Link.{Link}
+use Rattle.pm_syntax.specs.declared.tree.Link.TheVariants as link
 use Rattle.pm_syntax.specs.declared.tree.Literal.{Literal}
 use Rattle.pm_syntax.specs.declared.tree.Literal.TheVariants as literal
 use Rattle.pm_syntax.specs.declared.tree.Atom.{Atom}
@@ -27,7 +30,7 @@ use Rattle.pm_syntax.specs.declared.tree.Test.{Test}
 use Rattle.pm_syntax.specs.declared.tree.Test.TheVariants as test
 use Rattle.pm_syntax.specs.declared.tree.OrderItem.{OrderItem}
 use Rattle.pm_syntax.specs.declared.tree.Select.{Select}
-use Rattle.pm_syntax.specs.Terminals.{named, comparison_of, compares, func_of, magnitude}
+use Rattle.pm_syntax.specs.Terminals.{comparison_of, compares, func_of, magnitude}
 
 -- name, plain or quoted
 abbrev pub IsName : Lang PlacedName
@@ -72,10 +75,6 @@ IsTerm false next = IsColumn (λ column. next (expr.Column column))
 
 abbrev pub IsOperand : Bool → Lang Atom
 IsOperand grouped next ts = IsTerm grouped (λ e. next (atom.Expr e)) ts ⊎ IsLiteral (λ l. next (atom.Literal l)) ts
-
--- [ X ]: whether the token stands
-abbrev pub IsOptional : (Token → Bool) → Lang (Option Token)
-IsOptional test next ts = next None ts ⊎ Is test (λ t. next (Some t)) ts
 
 -- test = operand ( compare operand | IS [ NOT ] NULL | [ NOT ] IN "(" literal { "," literal } ")" | [ NOT ] BETWEEN operand AND operand )
 abbrev pub IsCompare : Bool → Atom → Lang Test
@@ -139,19 +138,31 @@ IsItem next = IsExpr (λ e. IsGiven (λ given. next (record { expr = e; given = 
 abbrev pub IsItems : Gate → Lang Items
 IsItems gate next ts = Is (is symbol.Star) (λ star. next (items.All star.at)) ts ⊎ IsList gate 64 IsItem (is symbol.Comma) (λ list. next (items.List list)) ts
 
--- source = name [ [ AS ] name ], sources = source { "," source | [ INNER ] JOIN source ON cond }
-abbrev pub IsJoin : Lang Bool
-IsJoin next ts = Is (is symbol.Comma) (λ _. next false) ts ⊎ Is (is symbol.Join) (λ _. next true) ts ⊎ Is (is symbol.Inner) (λ _. Is (is symbol.Join) (λ _. next true)) ts
+-- source = name [ [ AS ] name ], sources = source { "," source | [ INNER ] JOIN source ON cond | LEFT [ OUTER ] JOIN source ON cond }
+abbrev pub IsLink : Lang Link
+IsLink next ts =
+    Is (is symbol.Comma) (λ _. next link.Comma) ts
+    ⊎ Is (is symbol.Join) (λ _. next link.Join) ts
+    ⊎ Is (is symbol.Inner) (λ _. Is (is symbol.Join) (λ _. next link.Join)) ts
+    ⊎ Is (is symbol.Left) (λ _. IsOptional (is symbol.Outer) (λ _. Is (is symbol.Join) (λ _. next link.LeftJoin))) ts
 
-abbrev pub IsOn : ℕ → Gate → Bool → Lang (Option Test)
-IsOn d gate true next = Is (is symbol.On) (λ _. IsCondition false d gate (λ cond. next (Some cond)))
-IsOn d gate false next = next None
+abbrev pub IsJoinCondition : ℕ → Gate → Lang (Option Test)
+IsJoinCondition d gate next = Is (is symbol.On) (λ _. IsCondition false d gate (λ cond. next (Some cond)))
 
-abbrev pub IsSource : ℕ → Gate → Bool → Lang Source
-IsSource d gate joined next = IsName (λ table. IsGiven (λ alias. IsOn d gate joined (λ on. next (record { table = table; alias = alias; on = on }))))
+abbrev pub IsOn : ℕ → Gate → Link → Lang (Option Test)
+IsOn d gate link.Comma next = next None
+IsOn d gate link.Join next = IsJoinCondition d gate next
+IsOn d gate link.LeftJoin next = IsJoinCondition d gate next
+
+abbrev pub is_left : Link → Bool
+is_left link.LeftJoin = true
+is_left _ = false
+
+abbrev pub IsSource : ℕ → Gate → Link → Lang Source
+IsSource d gate l next = IsName (λ table. IsGiven (λ alias. IsOn d gate l (λ on. next (record { table = table; alias = alias; on = on; left = is_left l }))))
 
 abbrev pub IsSources : ℕ → Gate → Lang (List Source)
-IsSources d gate next = IsSource d gate false (λ first. IsFurther gate 64 IsJoin (IsSource d gate) (first ∷ []) next)
+IsSources d gate next = IsSource d gate link.Comma (λ first. IsFurther gate 64 IsLink (IsSource d gate) (first ∷ []) next)
 
 -- [ WHERE cond ], [ GROUP BY column { "," column } ], [ HAVING cond ]
 abbrev pub IsFilter : ℕ → Gate → Lang (Option Test)

@@ -3,3 +3,4 @@ pub mod Terminals
 pub mod Reading
 pub mod Statement
 pub mod Worked
+pub mod Same

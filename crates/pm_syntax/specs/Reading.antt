@@ -1,13 +1,11 @@
 -- What reading a statement answers, token by token.
-use Rattle.std.specs.Prelude.{◌≡◌, ℕ, zero, suc, pos, neg_ℤ, Bool, true, false, if◌then◌else◌, ◌&&◌, ◌||◌, List, [], ◌∷◌, Option, Some, None, Result, Ok, Err, length, drop, is_some, unwrap_or}
+use Rattle.std.specs.Prelude.{ℕ, zero, suc, pos, neg_ℤ, Bool, true, false, if◌then◌else◌, ◌&&◌, List, [], ◌∷◌, Option, Some, None, Ok, Err, length, drop, is_some, unwrap_or}
 use Rattle.pm_lexer.specs.declared.token.Token.{Token}
 use Rattle.pm_lexer.specs.declared.symbol.Symbol.TheVariants as symbol
 use Rattle.pm_lexer.specs.Symbol.{is}
 use Rattle.pm_lexer.specs.Pieces.{content_of, decimals_len}
-use Rattle.pm_grammar.specs.Reading.{Stop, expected, too_deep, too_many, Read, ◌>>=◌, place_of, sees, token_at, more_at, list_at}
-use Rattle.pm_syntax.specs.declared.fault.SynBad.{SynBad}
-use Rattle.pm_syntax.specs.declared.fault.SynBad.TheVariants as bad
-use Rattle.pm_syntax.specs.declared.tree.PlacedName.{PlacedName}
+use Rattle.pm_grammar.specs.Reading.{too_deep, Read, ◌>>=◌, place_of, sees, token_at, more_at, list_at, optional_at, named, name_at}
+use Rattle.pm_grammar.specs.declared.names.PlacedName.{PlacedName}
 use Rattle.pm_syntax.specs.declared.tree.ColumnName.{ColumnName}
 use Rattle.pm_syntax.specs.declared.tree.Func.TheVariants as func
 use Rattle.pm_syntax.specs.declared.tree.Expr.{Expr}
@@ -16,6 +14,8 @@ use Rattle.pm_syntax.specs.declared.tree.Item.{Item}
 use Rattle.pm_syntax.specs.declared.tree.Items.{Items}
 use Rattle.pm_syntax.specs.declared.tree.Items.TheVariants as items
 use Rattle.pm_syntax.specs.declared.tree.Source.{Source}
+use Rattle.pm_syntax.specs.declared.tree.Link.{Link}
+use Rattle.pm_syntax.specs.declared.tree.Link.TheVariants as link
 use Rattle.pm_syntax.specs.declared.tree.Literal.{Literal}
 use Rattle.pm_syntax.specs.declared.tree.Literal.TheVariants as literal
 use Rattle.pm_syntax.specs.declared.tree.Atom.{Atom}
@@ -25,33 +25,30 @@ use Rattle.pm_syntax.specs.declared.tree.Test.{Test}
 use Rattle.pm_syntax.specs.declared.tree.Test.TheVariants as test
 use Rattle.pm_syntax.specs.declared.tree.OrderItem.{OrderItem}
 use Rattle.pm_syntax.specs.declared.tree.Select.{Select}
-use Rattle.pm_syntax.specs.Terminals.{named, comparison_of, compares, func_of, magnitude}
-use Rattle.pm_syntax.specs.Grammar.{all_of, any_of, counts}
+use Rattle.pm_syntax.specs.Terminals.{comparison_of, compares, func_of, magnitude, begins_literal, begins_test, opens, begins_link}
+use Rattle.pm_syntax.specs.Grammar.{all_of, any_of, counts, is_left}
 
-unfoldable pub name_at : List Token → Read PlacedName
-name_at ts = token_at (is symbol.Name) ts >>= λ name. Ok (named name.0, name.1)
-
-unfoldable pub column_behind : PlacedName → List Token → Read ColumnName
-column_behind first ts =
-    if sees (is symbol.Point) ts then (name_at (drop 1 ts) >>= λ name. Ok (record { alias = Some first; name = name.0 }, name.1))
+unfoldable pub column_after : PlacedName → List Token → Read ColumnName
+column_after first ts =
+    if sees (is symbol.Point) ts then (name_at (is symbol.Name) (drop 1 ts) >>= λ name. Ok (record { alias = Some first; name = name.0 }, name.1))
     else Ok (record { alias = None; name = first }, ts)
 
 unfoldable pub column_at : List Token → Read ColumnName
-column_at ts = name_at ts >>= λ first. column_behind first.0 first.1
+column_at ts = name_at (is symbol.Name) ts >>= λ first. column_after first.0 first.1
 
--- behind a function and its parenthesis
-unfoldable pub call_behind : Token → List Token → Read Expr
-call_behind f ts =
+-- after a function and its parenthesis
+unfoldable pub call_after : Token → List Token → Read Expr
+call_after f ts =
     if counts f && sees (is symbol.Star) ts then (token_at (is symbol.Close) (drop 1 ts) >>= λ close. Ok (expr.CountAll f.at, close.1))
     else (column_at ts >>= λ column. token_at (is symbol.Close) column.1 >>= λ close. Ok (expr.Call (unwrap_or (func_of f) func.Count) column.0 f.at, close.1))
 
-unfoldable pub expr_behind : Token → List Token → Read Expr
-expr_behind first ts =
-    if is_some (func_of first) && sees (is symbol.Open) ts then call_behind first (drop 1 ts)
-    else (column_behind (named first) ts >>= λ column. Ok (expr.Column column.0, column.1))
+unfoldable pub expr_after : Token → List Token → Read Expr
+expr_after first ts =
+    if is_some (func_of first) && sees (is symbol.Open) ts then call_after first (drop 1 ts)
+    else (column_after (named first) ts >>= λ column. Ok (expr.Column column.0, column.1))
 
 unfoldable pub expr_at : List Token → Read Expr
-expr_at ts = token_at (is symbol.Name) ts >>= λ first. expr_behind first.0 first.1
+expr_at ts = token_at (is symbol.Name) ts >>= λ first. expr_after first.0 first.1
 
 unfoldable pub literal_at : List Token → Read Literal
 literal_at ts =
@@ -68,56 +65,41 @@ operand_at grouped ts =
     if sees (is symbol.Name) ts then (term_at grouped ts >>= λ e. Ok (atom.Expr e.0, e.1))
     else (literal_at ts >>= λ l. Ok (atom.Literal l.0, l.1))
 
--- a token that may stand
-abbrev pub optional_at : (Token → Bool) → List Token → Option Token × List Token
-optional_at test [] = (None, [])
-optional_at test (t ∷ ts) = if test t then (Some t, ts) else (None, t ∷ ts)
-
--- what begins a literal, a test, and a part that is not a test
-abbrev pub begins_literal : Token → Bool
-begins_literal t = is symbol.Minus t || is symbol.Text t || is symbol.Null t || is symbol.Number t
-
-abbrev pub begins_test : Token → Bool
-begins_test t = is symbol.Name t || begins_literal t
-
-abbrev pub opens : Token → Bool
-opens t = is symbol.Not t || is symbol.Open t
-
 unfoldable pub literals_at : List Token → Read (List Literal)
 literals_at ts = list_at (is symbol.Comma) (token_at begins_literal) literal_at 256 ts
 
-unfoldable pub compare_behind : Bool → Atom → List Token → Read Test
-compare_behind grouped left ts =
+unfoldable pub compare_after : Bool → Atom → List Token → Read Test
+compare_after grouped left ts =
     token_at compares ts >>= λ sign. operand_at grouped sign.1 >>= λ right. Ok (test.Compare (unwrap_or (comparison_of sign.0) comparison.Equal) left right.0 sign.0.at, right.1)
 
-unfoldable pub null_behind : Atom → List Token → Read Test
-null_behind of ts =
+unfoldable pub null_after : Atom → List Token → Read Test
+null_after of ts =
     let negation = optional_at (is symbol.Not) ts in
     token_at (is symbol.Null) negation.1 >>= λ null. Ok (test.IsNull of (is_some negation.0), null.1)
 
-unfoldable pub in_behind : Atom → Option Token → Token → List Token → Read Test
-in_behind of negation word ts =
+unfoldable pub in_after : Atom → Option Token → Token → List Token → Read Test
+in_after of negation word ts =
     token_at (is symbol.Open) ts >>= λ paren. literals_at paren.1 >>= λ list. token_at (is symbol.Close) list.1 >>= λ close.
     Ok (test.OneOf of list.0 (is_some negation) (unwrap_or negation word).at, close.1)
 
-unfoldable pub between_behind : Bool → Atom → Option Token → Token → List Token → Read Test
-between_behind grouped of negation word ts =
+unfoldable pub between_after : Bool → Atom → Option Token → Token → List Token → Read Test
+between_after grouped of negation word ts =
     operand_at grouped ts >>= λ low. token_at (is symbol.And) low.1 >>= λ and. operand_at grouped and.1 >>= λ high.
     Ok (test.Between of low.0 high.0 (is_some negation) (unwrap_or negation word).at, high.1)
 
-unfoldable pub range_behind : Bool → Atom → Option Token → List Token → Read Test
-range_behind grouped of negation ts =
-    if sees (is symbol.In) ts then (token_at (is symbol.In) ts >>= λ word. in_behind of negation word.0 word.1)
-    else (token_at (is symbol.Between) ts >>= λ word. between_behind grouped of negation word.0 word.1)
+unfoldable pub range_after : Bool → Atom → Option Token → List Token → Read Test
+range_after grouped of negation ts =
+    if sees (is symbol.In) ts then (token_at (is symbol.In) ts >>= λ word. in_after of negation word.0 word.1)
+    else (token_at (is symbol.Between) ts >>= λ word. between_after grouped of negation word.0 word.1)
 
-unfoldable pub test_behind : Bool → Atom → List Token → Read Test
-test_behind grouped of ts =
-    if sees compares ts then compare_behind grouped of ts
-    else (if sees (is symbol.Is) ts then null_behind of (drop 1 ts)
-    else (let negation = optional_at (is symbol.Not) ts in range_behind grouped of negation.0 negation.1))
+unfoldable pub test_after : Bool → Atom → List Token → Read Test
+test_after grouped of ts =
+    if sees compares ts then compare_after grouped of ts
+    else (if sees (is symbol.Is) ts then null_after of (drop 1 ts)
+    else (let negation = optional_at (is symbol.Not) ts in range_after grouped of negation.0 negation.1))
 
 unfoldable pub test_at : Bool → List Token → Read Test
-test_at grouped ts = operand_at grouped ts >>= λ of. test_behind grouped of.0 of.1
+test_at grouped ts = operand_at grouped ts >>= λ of. test_after grouped of.0 of.1
 
 unfoldable pub ands_at : (List Token → Read Token) → (List Token → Read Test) → List Token → Read Test
 ands_at peek p ts = list_at (is symbol.And) peek p 256 ts >>= λ members. Ok (all_of members.0, members.1)
@@ -142,8 +124,8 @@ condition_at grouped d ts = cond_at (part_peek d) (part_at grouped d) ts
 
 unfoldable pub given_at : List Token → Read (Option PlacedName)
 given_at ts =
-    if sees (is symbol.As) ts then (name_at (drop 1 ts) >>= λ name. Ok (Some name.0, name.1))
-    else (if sees (is symbol.Name) ts then (name_at ts >>= λ name. Ok (Some name.0, name.1)) else Ok (None, ts))
+    if sees (is symbol.As) ts then (name_at (is symbol.Name) (drop 1 ts) >>= λ name. Ok (Some name.0, name.1))
+    else (if sees (is symbol.Name) ts then (name_at (is symbol.Name) ts >>= λ name. Ok (Some name.0, name.1)) else Ok (None, ts))
 
 unfoldable pub item_at : List Token → Read Item
 item_at ts = expr_at ts >>= λ e. given_at e.1 >>= λ given. Ok (record { expr = e.0; given = given.0 }, given.1)
@@ -153,25 +135,28 @@ items_at ts =
     if sees (is symbol.Star) ts then (token_at (is symbol.Star) ts >>= λ star. Ok (items.All star.0.at, star.1))
     else (list_at (is symbol.Comma) (token_at (is symbol.Name)) item_at 64 ts >>= λ list. Ok (items.List list.0, list.1))
 
--- what begins a further source, and whether it is joined
-abbrev pub joins : Token → Bool
-joins t = is symbol.Comma t || is symbol.Join t || is symbol.Inner t
+unfoldable pub link_at : List Token → Read Link
+link_at ts =
+    if sees (is symbol.Comma) ts then Ok (link.Comma, drop 1 ts)
+    else (if sees (is symbol.Inner) ts then (token_at (is symbol.Join) (drop 1 ts) >>= λ join. Ok (link.Join, join.1))
+    else (if sees (is symbol.Left) ts then (let outer = optional_at (is symbol.Outer) (drop 1 ts) in token_at (is symbol.Join) outer.1 >>= λ join. Ok (link.LeftJoin, join.1))
+    else (token_at (is symbol.Join) ts >>= λ join. Ok (link.Join, join.1))))
 
-unfoldable pub join_at : List Token → Read Bool
-join_at ts =
-    if sees (is symbol.Comma) ts then Ok (false, drop 1 ts)
-    else (if sees (is symbol.Inner) ts then (token_at (is symbol.Join) (drop 1 ts) >>= λ join. Ok (true, join.1))
-    else (token_at (is symbol.Join) ts >>= λ join. Ok (true, join.1)))
+unfoldable pub join_condition_at : ℕ → List Token → Read (Option Test)
+join_condition_at d ts = token_at (is symbol.On) ts >>= λ on. condition_at false d on.1 >>= λ cond. Ok (Some cond.0, cond.1)
 
-unfoldable pub on_at : ℕ → Bool → List Token → Read (Option Test)
-on_at d joined ts =
-    if joined then (token_at (is symbol.On) ts >>= λ on. condition_at false d on.1 >>= λ cond. Ok (Some cond.0, cond.1)) else Ok (None, ts)
+unfoldable pub on_at : ℕ → Link → List Token → Read (Option Test)
+on_at d link.Comma ts = Ok (None, ts)
+on_at d link.Join ts = join_condition_at d ts
+on_at d link.LeftJoin ts = join_condition_at d ts
 
-unfoldable pub source_at : ℕ → Bool → List Token → Read Source
-source_at d joined ts = name_at ts >>= λ table. given_at table.1 >>= λ alias. on_at d joined alias.1 >>= λ on. Ok (record { table = table.0; alias = alias.0; on = on.0 }, on.1)
+unfoldable pub source_at : ℕ → Link → List Token → Read Source
+source_at d l ts =
+    name_at (is symbol.Name) ts >>= λ table. given_at table.1 >>= λ alias. on_at d l alias.1 >>= λ on.
+    Ok (record { table = table.0; alias = alias.0; on = on.0; left = is_left l }, on.1)
 
 unfoldable pub sources_at : ℕ → List Token → Read (List Source)
-sources_at d ts = source_at d false ts >>= λ first. more_at joins join_at (token_at (is symbol.Name)) (source_at d) 64 (length first.1) (first.0 ∷ []) first.1
+sources_at d ts = source_at d link.Comma ts >>= λ first. more_at begins_link link_at (token_at (is symbol.Name)) (source_at d) 64 (length first.1) (first.0 ∷ []) first.1
 
 unfoldable pub where_at : ℕ → List Token → Read (Option Test)
 where_at d ts = if sees (is symbol.Where) ts then (condition_at false d (drop 1 ts) >>= λ cond. Ok (Some cond.0, cond.1)) else Ok (None, ts)
@@ -204,14 +189,3 @@ select_at d ts =
     (let semicolon = optional_at (is symbol.Semicolon) orders.1 in
     token_at (is symbol.End) semicolon.1 >>= λ end.
     Ok (record { distinct = is_some distinct.0; items = items.0; sources = sources.0; filter = filter.0; groups = groups.0; having = having.0; orders = orders.0 }, end.1)))
-
--- what a function answered is what reading gives, unless memory ran out
-abbrev pub Fails : {A : Type 0} → SynBad → Result A Stop → Type 0
-Fails bad.Memory read = Unit {0}
-Fails (bad.Expected p) read = read ≡ Err (expected p)
-Fails (bad.TooDeep p) read = read ≡ Err (too_deep p)
-Fails (bad.TooMany p) read = read ≡ Err (too_many p)
-
-abbrev pub Gives : {X A : Type 0} → (X → A) → Result X SynBad → Result A Stop → Type 0
-Gives view (Ok x) read = read ≡ Ok (view x)
-Gives view (Err e) read = Fails e read

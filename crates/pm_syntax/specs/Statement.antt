@@ -2,8 +2,8 @@
 use Rattle.std.specs.Prelude.{ℕ, List, Result, Ok, Err}
 use Rattle.pm_lexer.specs.declared.token.Token.{Token}
 use Rattle.pm_grammar.specs.Answers.{nowhere, IsWhole, ExpectedIn, TooDeepIn, TooManyIn}
-use Rattle.pm_syntax.specs.declared.fault.SynBad.{SynBad}
-use Rattle.pm_syntax.specs.declared.fault.SynBad.TheVariants as bad
+use Rattle.pm_grammar.specs.declared.fault.SynBad.{SynBad}
+use Rattle.pm_grammar.specs.declared.fault.SynBad.TheVariants as bad
 use Rattle.pm_syntax.specs.declared.tree.Select.{Select}
 use Rattle.pm_syntax.specs.Grammar.{IsSelect}
 

@@ -1,5 +1,5 @@
 -- What single tokens stand for.
-use Rattle.std.specs.Prelude.{ℕ, Bool, ◌+◌, ◌-◌, ◌*◌, List, Option, Some, None, if◌then◌else◌, codes, is_some, fold, filter}
+use Rattle.std.specs.Prelude.{ℕ, Bool, ◌||◌, ◌+◌, ◌-◌, ◌*◌, List, Option, Some, None, if◌then◌else◌, codes, is_some, fold, filter}
 use Rattle.std.specs.Str.{str_eq_ignore_ascii_case}
 use Rattle.std.specs.Char.{is_ascii_digit}
 use Rattle.pm_lexer.specs.declared.token.Token.{Token}
@@ -7,17 +7,11 @@ use Rattle.pm_lexer.specs.declared.token.TokenKind.{TokenKind}
 use Rattle.pm_lexer.specs.declared.token.TokenKind.TheVariants as kind
 use Rattle.pm_lexer.specs.declared.symbol.Symbol.{Symbol}
 use Rattle.pm_lexer.specs.declared.symbol.Symbol.TheVariants as symbol
-use Rattle.pm_lexer.specs.Symbol.{symbol_of}
-use Rattle.pm_lexer.specs.Pieces.{content_of}
-use Rattle.pm_syntax.specs.declared.tree.PlacedName.{PlacedName}
+use Rattle.pm_lexer.specs.Symbol.{symbol_of, is}
 use Rattle.pm_syntax.specs.declared.tree.Func.{Func}
 use Rattle.pm_syntax.specs.declared.tree.Func.TheVariants as func
 use Rattle.pm_values.specs.declared.condition.Comparison.{Comparison}
 use Rattle.pm_values.specs.declared.condition.Comparison.TheVariants as comparison
-
--- a name with its place
-abbrev pub named : Token → PlacedName
-named token = record { text = content_of token; at = token.at }
 
 -- the comparison of a sign
 abbrev pub comparison_of_symbol : Symbol → Option Comparison
@@ -62,3 +56,16 @@ magnitude_of slice = digits_value (filter is_ascii_digit slice)
 
 abbrev pub magnitude : Token → ℕ
 magnitude token = magnitude_of token.slice
+
+-- what begins a literal, a test, a part one level deeper, and what joins a further source
+abbrev pub begins_literal : Token → Bool
+begins_literal t = is symbol.Minus t || is symbol.Text t || is symbol.Null t || is symbol.Number t
+
+abbrev pub begins_test : Token → Bool
+begins_test t = is symbol.Name t || begins_literal t
+
+abbrev pub opens : Token → Bool
+opens t = is symbol.Not t || is symbol.Open t
+
+abbrev pub begins_link : Token → Bool
+begins_link t = is symbol.Comma t || is symbol.Join t || is symbol.Inner t || is symbol.Left t

@@ -2,7 +2,7 @@
 use Rattle.std.specs.Prelude.{◌≡◌, ℕ, pos, true, false, List, [], ◌∷◌, Some, None, Result, Ok, codes}
 use Rattle.pm_lexer.specs.declared.token.Token.{Token}
 use Rattle.pm_lexer.specs.Tokens.{tokens_of}
-use Rattle.pm_syntax.specs.declared.fault.SynBad.{SynBad}
+use Rattle.pm_grammar.specs.declared.fault.SynBad.{SynBad}
 use Rattle.pm_syntax.specs.declared.tree.Expr.{Expr}
 use Rattle.pm_syntax.specs.declared.tree.Expr.TheVariants as expr
 use Rattle.pm_syntax.specs.declared.tree.Items.TheVariants as items
@@ -37,7 +37,7 @@ abbrev pub filtered : Test → Select
 filtered cond = record {
   distinct = false;
   items = items.List (record { expr = column (codes "a") 7; given = None } ∷ []);
-  sources = record { table = record { text = codes "t"; at = 14 }; alias = None; on = None } ∷ [];
+  sources = record { table = record { text = codes "t"; at = 14 }; alias = None; on = None; left = false } ∷ [];
   filter = Some cond;
   groups = [];
   having = None;

@@ -1,18 +1,18 @@
+//! Reads tests, and conditions made of them by AND, OR, NOT and parentheses.
 ghost use Rattle.std.specs.Prelude.{◌≡◌, length, nat_le, unwrap_or};
 ghost use Rattle.std.specs.Option.{option_copied};
 ghost use Rattle.pm_lexer.specs.declared.symbol.Symbol.TheVariants as symbol;
 ghost use Rattle.pm_lexer.specs.Symbol.{is};
 ghost use Rattle.pm_grammar.specs.Reading.{token_at, entry_at, more_at, sees};
 ghost use Rattle.pm_syntax.specs.Grammar.{all_of, any_of};
-ghost use Rattle.pm_syntax.specs.Terminals.{comparison_of, compares};
-ghost use Rattle.pm_syntax.specs.Reading.{Gives, literals_at, compare_behind, null_behind, in_behind, between_behind, range_behind, test_behind, test_at, ands_at, cond_at, part_peek, part_at, condition_at, begins_test, opens};
+ghost use Rattle.pm_grammar.specs.Outcome.{Gives};
+ghost use Rattle.pm_syntax.specs.Terminals.{comparison_of};
+ghost use Rattle.pm_syntax.specs.Reading.{literals_at, compare_after, null_after, in_after, between_after, range_after, test_after, test_at, ands_at, cond_at, part_peek, part_at, condition_at};
 
-use crate::entries::literal_begins;
 use crate::expressions::operand;
-use crate::fault::SynBad;
-use crate::lists::list;
-use crate::terminals::{behind, comparison, is, optional, place, sees, token};
-use crate::tree::{Atom, Literals, Test, Tests};
+use crate::terminals::{ComparisonSign, Opening, TestStart, comparison};
+use crate::tree::{Atom, Literal, Literals, Test, Tests};
+use pm_grammar::{SynBad, after, list, optional, place, sees, token};
 use pm_lexer::{Symbol, Token};
 use pm_values::Comparison;
 use sqlite_items::Boxed;
@@ -21,36 +21,17 @@ use std::alloc::Global;
 /// At most so many members stand in one list of a condition.
 const MEMBERS: usize = 256;
 
-// Whether a sign of a comparison comes next.
-fn compares(tokens: &[Token]) -> bool
-    ensures { result ≡ sees compares tokens.now }
-{
-    match tokens {
-        [] => false,
-        [token, ..] => comparison(token).is_some(),
-    }
-}
-
-fn comparison_sign(tokens: &[Token]) -> Result<(&Token, &[Token]), SynBad>
-    ensures { Gives (λ x. (x.0.now, x.1.now)) result (token_at compares tokens.now) }
-{
-    match tokens {
-        [token, rest @ ..] if comparison(token).is_some() => Ok((token, rest)),
-        _ => Err(SynBad::Expected(place(tokens))),
-    }
-}
-
-// compare operand, behind the left one
-#[tactic(auto, unfolding(crate::specs::Reading::compare_behind))]
-fn compare_behind(
+// compare operand, after the left one
+#[tactic(auto, unfolding(crate::specs::Reading::compare_after))]
+fn compare_after(
     alloc: Global,
     grouped: bool,
     left: Atom,
     tokens: &[Token],
 ) -> Result<(Test, &[Token]), SynBad>
-    ensures { Gives (λ x. (x.0, x.1.now)) result (compare_behind grouped left tokens.now) }
+    ensures { Gives (λ x. (x.0, x.1.now)) result (compare_after grouped left tokens.now) }
 {
-    let (sign, rest) = comparison_sign(tokens)?;
+    let (sign, rest) = token(ComparisonSign, tokens)?;
     let how = comparison(sign).unwrap_or(Comparison::Equal);
     let at = sign.at;
     let (right, rest) = operand(alloc, grouped, rest)?;
@@ -65,10 +46,10 @@ fn compare_behind(
     ))
 }
 
-// [ NOT ] NULL, behind IS
-#[tactic(auto, unfolding(crate::specs::Reading::null_behind))]
-fn null_behind(of: Atom, tokens: &[Token]) -> Result<(Test, &[Token]), SynBad>
-    ensures { Gives (λ x. (x.0, x.1.now)) result (null_behind of tokens.now) }
+// [ NOT ] NULL, after IS
+#[tactic(auto, unfolding(crate::specs::Reading::null_after))]
+fn null_after(of: Atom, tokens: &[Token]) -> Result<(Test, &[Token]), SynBad>
+    ensures { Gives (λ x. (x.0, x.1.now)) result (null_after of tokens.now) }
 {
     let (negation, rest) = optional(Symbol::Not, tokens);
     let negated = negation.is_some();
@@ -81,7 +62,7 @@ fn null_behind(of: Atom, tokens: &[Token]) -> Result<(Test, &[Token]), SynBad>
 fn literals(alloc: Global, tokens: &[Token]) -> Result<(Literals, &[Token]), SynBad>
     ensures { Gives (λ x. (x.0, x.1.now)) result (literals_at tokens.now) }
 {
-    list(alloc, MEMBERS, tokens)
+    list::<Literal, Symbol>(alloc, Symbol::Comma, MEMBERS, tokens)
 }
 
 // The place of a test that begins with this word, or with NOT before it.
@@ -94,16 +75,16 @@ fn test_place(negation: Option<&Token>, word: &Token) -> u64
     }
 }
 
-// "(" literal { "," literal } ")", behind IN
-#[tactic(auto, unfolding(crate::specs::Reading::in_behind))]
-fn in_behind<'a>(
+// "(" literal { "," literal } ")", after IN
+#[tactic(auto, unfolding(crate::specs::Reading::in_after))]
+fn in_after<'a>(
     alloc: Global,
     of: Atom,
     negation: Option<&Token>,
     word: &Token,
     tokens: &'a [Token],
 ) -> Result<(Test, &'a [Token]), SynBad>
-    ensures { Gives (λ x. (x.0, x.1.now)) result (in_behind of (option_copied negation.entry) word.now tokens.now) }
+    ensures { Gives (λ x. (x.0, x.1.now)) result (in_after of (option_copied negation.entry) word.now tokens.now) }
 {
     let negated = negation.is_some();
     let at = test_place(negation, word);
@@ -121,9 +102,9 @@ fn in_behind<'a>(
     ))
 }
 
-// operand AND operand, behind BETWEEN
-#[tactic(auto, unfolding(crate::specs::Reading::between_behind))]
-fn between_behind<'a>(
+// operand AND operand, after BETWEEN
+#[tactic(auto, unfolding(crate::specs::Reading::between_after))]
+fn between_after<'a>(
     alloc: Global,
     grouped: bool,
     of: Atom,
@@ -131,7 +112,7 @@ fn between_behind<'a>(
     word: &Token,
     tokens: &'a [Token],
 ) -> Result<(Test, &'a [Token]), SynBad>
-    ensures { Gives (λ x. (x.0, x.1.now)) result (between_behind grouped of (option_copied negation.entry) word.now tokens.now) }
+    ensures { Gives (λ x. (x.0, x.1.now)) result (between_after grouped of (option_copied negation.entry) word.now tokens.now) }
 {
     let negated = negation.is_some();
     let at = test_place(negation, word);
@@ -150,43 +131,43 @@ fn between_behind<'a>(
     ))
 }
 
-// IN or BETWEEN, behind an operand and its NOT
-#[tactic(auto, unfolding(crate::specs::Reading::range_behind))]
-fn range_behind<'a>(
+// IN or BETWEEN, after an operand and its NOT
+#[tactic(auto, unfolding(crate::specs::Reading::range_after))]
+fn range_after<'a>(
     alloc: Global,
     grouped: bool,
     of: Atom,
     negation: Option<&Token>,
     tokens: &'a [Token],
 ) -> Result<(Test, &'a [Token]), SynBad>
-    ensures { Gives (λ x. (x.0, x.1.now)) result (range_behind grouped of (option_copied negation.entry) tokens.now) }
+    ensures { Gives (λ x. (x.0, x.1.now)) result (range_after grouped of (option_copied negation.entry) tokens.now) }
 {
     if sees(Symbol::In, tokens) {
         let (word, rest) = token(Symbol::In, tokens)?;
-        return in_behind(alloc, of, negation, word, rest);
+        return in_after(alloc, of, negation, word, rest);
     }
     let (word, rest) = token(Symbol::Between, tokens)?;
-    between_behind(alloc, grouped, of, negation, word, rest)
+    between_after(alloc, grouped, of, negation, word, rest)
 }
 
-// What stands behind the first operand of a test.
-#[tactic(auto, unfolding(crate::specs::Reading::test_behind))]
-fn test_behind(
+// What stands after the first operand of a test.
+#[tactic(auto, unfolding(crate::specs::Reading::test_after))]
+fn test_after(
     alloc: Global,
     grouped: bool,
     of: Atom,
     tokens: &[Token],
 ) -> Result<(Test, &[Token]), SynBad>
-    ensures { Gives (λ x. (x.0, x.1.now)) result (test_behind grouped of tokens.now) }
+    ensures { Gives (λ x. (x.0, x.1.now)) result (test_after grouped of tokens.now) }
 {
-    if compares(tokens) {
-        return compare_behind(alloc, grouped, of, tokens);
+    if sees(ComparisonSign, tokens) {
+        return compare_after(alloc, grouped, of, tokens);
     }
-    if let Some(rest) = behind(Symbol::Is, tokens) {
-        return null_behind(of, rest);
+    if let Some(rest) = after(Symbol::Is, tokens) {
+        return null_after(of, rest);
     }
     let (negation, rest) = optional(Symbol::Not, tokens);
-    range_behind(alloc, grouped, of, negation, rest)
+    range_after(alloc, grouped, of, negation, rest)
 }
 
 // test = operand ( compare operand | IS [ NOT ] NULL | [ NOT ] IN .. | [ NOT ] BETWEEN .. )
@@ -195,7 +176,7 @@ fn test(alloc: Global, grouped: bool, tokens: &[Token]) -> Result<(Test, &[Token
     ensures { Gives (λ x. (x.0, x.1.now)) result (test_at grouped tokens.now) }
 {
     let (of, rest) = operand(alloc, grouped, tokens)?;
-    test_behind(alloc, grouped, of, rest)
+    test_after(alloc, grouped, of, rest)
 }
 
 fn all(mut members: Tests) -> Test
@@ -216,48 +197,18 @@ fn any(mut members: Tests) -> Test
     members.pop().unwrap()
 }
 
-// Whether a NOT or a parenthesis comes next.
-fn opens(tokens: &[Token]) -> bool
-    ensures { result ≡ sees opens tokens.now }
-{
-    match tokens {
-        [] => false,
-        [token, ..] => is(Symbol::Not, token) || is(Symbol::Open, token),
-    }
-}
-
 // The first token of a part past the limit of its list.
 #[tactic(auto, using(crate::proofs::Parts::peek_deep, crate::proofs::Parts::peek_opens, crate::proofs::Parts::peek_test))]
 fn peek(depth: u32, tokens: &[Token]) -> Result<(&Token, &[Token]), SynBad>
     ensures { Gives (λ x. (x.0.now, x.1.now)) result (part_peek depth tokens.now) }
 {
-    if !opens(tokens) {
-        return test_begins(tokens);
+    if !sees(Opening, tokens) {
+        return token(TestStart, tokens);
     }
     if depth != 0 {
-        return opening(tokens);
+        return token(Opening, tokens);
     }
     Err(SynBad::TooDeep(place(tokens)))
-}
-
-fn opening(tokens: &[Token]) -> Result<(&Token, &[Token]), SynBad>
-    ensures { Gives (λ x. (x.0.now, x.1.now)) result (token_at opens tokens.now) }
-{
-    match tokens {
-        [token, rest @ ..] if is(Symbol::Not, token) || is(Symbol::Open, token) => Ok((
-            token, rest,
-        )),
-        _ => Err(SynBad::Expected(place(tokens))),
-    }
-}
-
-fn test_begins(tokens: &[Token]) -> Result<(&Token, &[Token]), SynBad>
-    ensures { Gives (λ x. (x.0.now, x.1.now)) result (token_at begins_test tokens.now) }
-{
-    match tokens {
-        [token, rest @ ..] if is(Symbol::Name, token) || literal_begins(token) => Ok((token, rest)),
-        _ => Err(SynBad::Expected(place(tokens))),
-    }
 }
 
 // part = NOT part | "(" cond ")" | test
@@ -271,13 +222,13 @@ fn part(
 ) -> Result<(Test, &[Token]), SynBad>
     ensures { Gives (λ x. (x.0, x.1.now)) result (part_at grouped depth tokens.now) }
 {
-    if !opens(tokens) {
+    if !sees(Opening, tokens) {
         return test(alloc, grouped, tokens);
     }
     if depth == 0 {
         return Err(SynBad::TooDeep(place(tokens)));
     }
-    if let Some(inner) = behind(Symbol::Not, tokens) {
+    if let Some(inner) = after(Symbol::Not, tokens) {
         let (part, rest) = part(alloc, grouped, depth - 1, inner)?;
         let part = Boxed::new(alloc, part)?;
         return Ok((Test::Not(part), rest));
@@ -335,11 +286,11 @@ fn more_parts(
     ensures { Gives (λ x. (x.0, x.1.now)) result (more_at (is symbol.And) (token_at (is symbol.And)) (part_peek depth) (λ _. part_at grouped depth) 256 (length rest.entry.now) members rest.entry.now) }
 {
     'parts: for _ in 0..rest.len() {
-        let Some(behind) = behind(Symbol::And, rest) else {
+        let Some(next) = after(Symbol::And, rest) else {
             return Ok((members, rest));
         };
-        let (next, after) = and_member(alloc, grouped, depth, members.len() >= MEMBERS, behind)?;
-        members.push(next)?;
+        let (member, after) = and_member(alloc, grouped, depth, members.len() >= MEMBERS, next)?;
+        members.push(member)?;
         rest = after;
     }
     Ok((members, rest))
@@ -392,11 +343,11 @@ fn more_ands(
     ensures { Gives (λ x. (x.0, x.1.now)) result (more_at (is symbol.Or) (token_at (is symbol.Or)) (part_peek depth) (λ _. ands_at (part_peek depth) (part_at grouped depth)) 256 (length rest.entry.now) members rest.entry.now) }
 {
     'ands: for _ in 0..rest.len() {
-        let Some(behind) = behind(Symbol::Or, rest) else {
+        let Some(next) = after(Symbol::Or, rest) else {
             return Ok((members, rest));
         };
-        let (next, after) = or_member(alloc, grouped, depth, members.len() >= MEMBERS, behind)?;
-        members.push(next)?;
+        let (member, after) = or_member(alloc, grouped, depth, members.len() >= MEMBERS, next)?;
+        members.push(member)?;
         rest = after;
     }
     Ok((members, rest))

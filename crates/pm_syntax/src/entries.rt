@@ -1,19 +1,22 @@
+//! The entries of the lists of a statement: columns, selected expressions, keys of ORDER BY, and literals.
 ghost use Rattle.std.specs.Prelude.{◌≡◌, Ok};
 ghost use Rattle.pm_lexer.specs.Symbol.{is};
 ghost use Rattle.pm_grammar.specs.Reading.{token_at};
-ghost use Rattle.pm_syntax.specs.Reading.{Gives, given_at, item_at, direction_at, key_at, begins_literal};
+ghost use Rattle.pm_grammar.specs.Outcome.{Gives};
+ghost use Rattle.pm_syntax.specs.Reading.{given_at, item_at, direction_at, key_at};
 
 use crate::expressions::{column, expr, literal};
-use crate::fault::SynBad;
-use crate::lists::Entry;
-use crate::terminals::{behind, is, name, place, sees, token};
-use crate::tree::{ColumnName, Item, Literal, OrderItem, PlacedName};
+use crate::terminals::LiteralStart;
+use crate::tree::{ColumnName, Item, Literal, OrderItem};
+use pm_grammar::{Entry, PlacedName, SynBad, after, name, sees, token};
 use pm_lexer::{Symbol, Token};
 use std::alloc::Global;
 
 impl Entry for ColumnName {
     ghost use Rattle.pm_lexer.specs.declared.symbol.Symbol.TheVariants as symbol;
     ghost use Rattle.pm_syntax.specs.Reading.{column_at};
+
+    type Value = ColumnName;
 
     ghost reads = { column_at };
 
@@ -36,12 +39,12 @@ pub(crate) fn given(
 ) -> Result<(Option<PlacedName>, &[Token]), SynBad>
     ensures { Gives (λ x. (x.0, x.1.now)) result (given_at tokens.now) }
 {
-    if let Some(rest) = behind(Symbol::As, tokens) {
-        let (given, rest) = name(alloc, rest)?;
+    if let Some(rest) = after(Symbol::As, tokens) {
+        let (given, rest) = name(alloc, Symbol::Name, rest)?;
         return Ok((Some(given), rest));
     }
     if sees(Symbol::Name, tokens) {
-        let (given, rest) = name(alloc, tokens)?;
+        let (given, rest) = name(alloc, Symbol::Name, tokens)?;
         return Ok((Some(given), rest));
     }
     Ok((None, tokens))
@@ -61,6 +64,8 @@ impl Entry for Item {
     ghost use Rattle.pm_lexer.specs.declared.symbol.Symbol.TheVariants as symbol;
     ghost use Rattle.pm_syntax.specs.Reading.{item_at};
 
+    type Value = Item;
+
     ghost reads = { item_at };
 
     ghost peeks = { token_at (is symbol.Name) };
@@ -79,10 +84,10 @@ impl Entry for Item {
 fn direction(tokens: &[Token]) -> (bool, &[Token])
     ensures { direction_at tokens.now ≡ Ok (result.0, result.1.now) }
 {
-    if let Some(rest) = behind(Symbol::Desc, tokens) {
+    if let Some(rest) = after(Symbol::Desc, tokens) {
         return (true, rest);
     }
-    if let Some(rest) = behind(Symbol::Asc, tokens) {
+    if let Some(rest) = after(Symbol::Asc, tokens) {
         return (false, rest);
     }
     (false, tokens)
@@ -102,6 +107,8 @@ impl Entry for OrderItem {
     ghost use Rattle.pm_lexer.specs.declared.symbol.Symbol.TheVariants as symbol;
     ghost use Rattle.pm_syntax.specs.Reading.{key_at};
 
+    type Value = OrderItem;
+
     ghost reads = { key_at };
 
     ghost peeks = { token_at (is symbol.Name) };
@@ -115,27 +122,11 @@ impl Entry for OrderItem {
     }
 }
 
-// A token that begins a literal.
-pub(crate) fn literal_begins(token: &Token) -> bool
-    ensures { result ≡ begins_literal token.now }
-{
-    is(Symbol::Minus, token)
-        || is(Symbol::Text, token)
-        || is(Symbol::Null, token)
-        || is(Symbol::Number, token)
-}
-
-pub(crate) fn literal_peek(tokens: &[Token]) -> Result<(&Token, &[Token]), SynBad>
-    ensures { Gives (λ x. (x.0.now, x.1.now)) result (token_at begins_literal tokens.now) }
-{
-    match tokens {
-        [token, rest @ ..] if literal_begins(token) => Ok((token, rest)),
-        _ => Err(SynBad::Expected(place(tokens))),
-    }
-}
-
 impl Entry for Literal {
-    ghost use Rattle.pm_syntax.specs.Reading.{literal_at, begins_literal};
+    ghost use Rattle.pm_syntax.specs.Terminals.{begins_literal};
+    ghost use Rattle.pm_syntax.specs.Reading.{literal_at};
+
+    type Value = Literal;
 
     ghost reads = { literal_at };
 
@@ -146,6 +137,6 @@ impl Entry for Literal {
     }
 
     fn peek(tokens: &[Token]) -> Result<(&Token, &[Token]), SynBad> {
-        literal_peek(tokens)
+        token(LiteralStart, tokens)
     }
 }

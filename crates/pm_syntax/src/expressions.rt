@@ -1,31 +1,34 @@
+//! Reads columns, expressions, literals and operands.
 ghost use Rattle.std.specs.Prelude.{◌≡◌, Some};
-ghost use Rattle.pm_syntax.specs.Terminals.{named, func_of};
-ghost use Rattle.pm_syntax.specs.Reading.{Gives, column_behind, column_at, call_behind, expr_behind, expr_at, literal_at, term_at, operand_at};
+ghost use Rattle.pm_grammar.specs.Reading.{named};
+ghost use Rattle.pm_grammar.specs.Outcome.{Gives};
+ghost use Rattle.pm_syntax.specs.Terminals.{func_of};
+ghost use Rattle.pm_syntax.specs.Reading.{column_after, column_at, call_after, expr_after, expr_at, literal_at, term_at, operand_at};
 
-use crate::fault::SynBad;
 use crate::numbers::number;
-use crate::terminals::{behind, func, name, placed, sees, token};
-use crate::tree::{Atom, ColumnName, Expr, Func, Literal, PlacedName};
+use crate::terminals::func;
+use crate::tree::{Atom, ColumnName, Expr, Func, Literal};
+use pm_grammar::{PlacedName, SynBad, after, name, placed, sees, token};
 use pm_lexer::{Symbol, Token, content};
 use std::alloc::Global;
 
-// A column, behind its first name.
-#[tactic(auto, unfolding(crate::specs::Reading::column_behind))]
-fn column_behind(
+// A column, after its first name.
+#[tactic(auto, unfolding(crate::specs::Reading::column_after))]
+fn column_after(
     alloc: Global,
     first: PlacedName,
     tokens: &[Token],
 ) -> Result<(ColumnName, &[Token]), SynBad>
-    ensures { Gives (λ x. (x.0, x.1.now)) result (column_behind first tokens.now) }
+    ensures { Gives (λ x. (x.0, x.1.now)) result (column_after first tokens.now) }
 {
-    let Some(rest) = behind(Symbol::Point, tokens) else {
+    let Some(rest) = after(Symbol::Point, tokens) else {
         let column = ColumnName {
             alias: None,
             name: first,
         };
         return Ok((column, tokens));
     };
-    let (name, rest) = name(alloc, rest)?;
+    let (name, rest) = name(alloc, Symbol::Name, rest)?;
     let column = ColumnName {
         alias: Some(first),
         name,
@@ -38,24 +41,24 @@ fn column_behind(
 pub(crate) fn column(alloc: Global, tokens: &[Token]) -> Result<(ColumnName, &[Token]), SynBad>
     ensures { Gives (λ x. (x.0, x.1.now)) result (column_at tokens.now) }
 {
-    let (first, rest) = name(alloc, tokens)?;
-    column_behind(alloc, first, rest)
+    let (first, rest) = name(alloc, Symbol::Name, tokens)?;
+    column_after(alloc, first, rest)
 }
 
 // What stands between a function's parentheses.
-#[tactic(auto, unfolding(crate::specs::Reading::call_behind))]
-fn call_behind<'a>(
+#[tactic(auto, unfolding(crate::specs::Reading::call_after))]
+fn call_after<'a>(
     alloc: Global,
     first: &Token,
     func: Func,
     tokens: &'a [Token],
 ) -> Result<(Expr, &'a [Token]), SynBad>
     requires { func_of first.now ≡ Some func }
-    ensures { Gives (λ x. (x.0, x.1.now)) result (call_behind first.now tokens.now) }
+    ensures { Gives (λ x. (x.0, x.1.now)) result (call_after first.now tokens.now) }
 {
     let at = first.at;
     if func == Func::Count {
-        if let Some(rest) = behind(Symbol::Star, tokens) {
+        if let Some(rest) = after(Symbol::Star, tokens) {
             let (_, rest) = token(Symbol::Close, rest)?;
             return Ok((Expr::CountAll { at }, rest));
         }
@@ -65,22 +68,22 @@ fn call_behind<'a>(
     Ok((Expr::Call { func, column, at }, rest))
 }
 
-// An expression, behind its first name.
-#[tactic(auto, unfolding(crate::specs::Reading::expr_behind))]
-fn expr_behind<'a>(
+// An expression, after its first name.
+#[tactic(auto, unfolding(crate::specs::Reading::expr_after))]
+fn expr_after<'a>(
     alloc: Global,
     first: &Token,
     tokens: &'a [Token],
 ) -> Result<(Expr, &'a [Token]), SynBad>
-    ensures { Gives (λ x. (x.0, x.1.now)) result (expr_behind first.now tokens.now) }
+    ensures { Gives (λ x. (x.0, x.1.now)) result (expr_after first.now tokens.now) }
 {
     if let Some(func) = func(first) {
-        if let Some(rest) = behind(Symbol::Open, tokens) {
-            return call_behind(alloc, first, func, rest);
+        if let Some(rest) = after(Symbol::Open, tokens) {
+            return call_after(alloc, first, func, rest);
         }
     }
     let name = placed(alloc, first)?;
-    let (column, rest) = column_behind(alloc, name, tokens)?;
+    let (column, rest) = column_after(alloc, name, tokens)?;
     Ok((Expr::Column(column), rest))
 }
 
@@ -90,7 +93,7 @@ pub(crate) fn expr(alloc: Global, tokens: &[Token]) -> Result<(Expr, &[Token]), 
     ensures { Gives (λ x. (x.0, x.1.now)) result (expr_at tokens.now) }
 {
     let (first, rest) = token(Symbol::Name, tokens)?;
-    expr_behind(alloc, first, rest)
+    expr_after(alloc, first, rest)
 }
 
 // literal = [ "-" ] number | text | NULL
@@ -98,9 +101,9 @@ pub(crate) fn expr(alloc: Global, tokens: &[Token]) -> Result<(Expr, &[Token]), 
 pub(crate) fn literal(alloc: Global, tokens: &[Token]) -> Result<(Literal, &[Token]), SynBad>
     ensures { Gives (λ x. (x.0, x.1.now)) result (literal_at tokens.now) }
 {
-    if let Some(rest) = behind(Symbol::Minus, tokens) {
+    if let Some(rest) = after(Symbol::Minus, tokens) {
         let (digits, rest) = token(Symbol::Number, rest)?;
-        let found = number(digits, true)?;
+        let found = number(digits, true);
         return Ok((found, rest));
     }
     if sees(Symbol::Text, tokens) {
@@ -108,11 +111,11 @@ pub(crate) fn literal(alloc: Global, tokens: &[Token]) -> Result<(Literal, &[Tok
         let text = content(alloc, quoted)?;
         return Ok((Literal::Text(text), rest));
     }
-    if let Some(rest) = behind(Symbol::Null, tokens) {
+    if let Some(rest) = after(Symbol::Null, tokens) {
         return Ok((Literal::Null, rest));
     }
     let (digits, rest) = token(Symbol::Number, tokens)?;
-    let found = number(digits, false)?;
+    let found = number(digits, false);
     Ok((found, rest))
 }
 

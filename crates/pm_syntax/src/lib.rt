@@ -2,22 +2,20 @@
 //! limits, and else the refusal with the least place. The grammar is in specs/.
 #![tactic(auto)]
 
-pub mod conditions;
-pub mod entries;
-pub mod expressions;
-pub mod fault;
-pub mod lists;
-pub mod numbers;
-pub mod statement;
-pub mod terminals;
+mod conditions;
+mod entries;
+mod expressions;
+mod numbers;
+mod statement;
+mod terminals;
 #[cfg(test)]
 mod tests;
-pub mod tree;
-pub mod worked;
+mod tree;
+mod worked;
 
-pub use fault::SynBad;
+pub use pm_grammar::{PlacedName, SynBad};
 pub use statement::{answers_once, parse};
 pub use tree::{
-    Atom, ColumnName, ColumnNames, Expr, Func, Item, Items, Literal, Literals, OrderItem,
-    OrderItems, PlacedName, Select, SelectItems, Source, Sources, Test, Tests,
+    Atom, ColumnName, ColumnNames, Expr, Func, Item, Items, Link, Literal, Literals, OrderItem,
+    OrderItems, Select, SelectItems, Source, Sources, Test, Tests,
 };

@@ -1,20 +1,24 @@
+//! Reads the parts of a statement, and a whole one.
 ghost use Rattle.std.specs.Prelude.{◌≡◌, ◌⊎◌, List, Result, length, IsErrOf};
 ghost use Rattle.pm_lexer.specs.declared.token.Token.{Token};
-ghost use Rattle.pm_syntax.specs.declared.tree.Select.{Select};
-ghost use Rattle.pm_syntax.specs.declared.fault.SynBad.{SynBad};
-ghost use Rattle.pm_syntax.specs.declared.fault.SynBad.TheVariants as bad;
-ghost use Rattle.pm_syntax.specs.Statement.{CallsFor};
 ghost use Rattle.pm_lexer.specs.declared.symbol.Symbol.TheVariants as symbol;
 ghost use Rattle.pm_lexer.specs.Symbol.{is};
-ghost use Rattle.pm_grammar.specs.Reading.{token_at, entry_at, more_at, sees, whole};
-ghost use Rattle.pm_syntax.specs.Reading.{Gives, items_at, join_at, joins, on_at, source_at, sources_at, where_at, having_at, groups_at, orders_at, select_at};
+ghost use Rattle.pm_grammar.specs.declared.fault.SynBad.{SynBad};
+ghost use Rattle.pm_grammar.specs.declared.fault.SynBad.TheVariants as bad;
+ghost use Rattle.pm_grammar.specs.Reading.{whole};
+ghost use Rattle.pm_grammar.specs.Outcome.{Gives};
+ghost use Rattle.pm_syntax.specs.declared.tree.Select.{Select};
+ghost use Rattle.pm_syntax.specs.Statement.{CallsFor};
+ghost use Rattle.pm_syntax.specs.Reading.{items_at, link_at, join_condition_at, on_at, source_at, sources_at, where_at, having_at, groups_at, orders_at, select_at};
 
 use crate::conditions::condition;
 use crate::entries::given;
-use crate::fault::SynBad;
-use crate::lists::list;
-use crate::terminals::{behind, is, name, optional, place, sees, token};
-use crate::tree::{ColumnNames, Items, OrderItems, Select, Source, Sources, Test};
+use crate::terminals::LinkStart;
+use crate::tree::{
+    ColumnName, ColumnNames, Item, Items, Link, OrderItem, OrderItems, Select, Source, Sources,
+    Test,
+};
+use pm_grammar::{Series, SynBad, after, further_series, list, name, optional, sees, token};
 use pm_lexer::{Symbol, Token, Tokens};
 use std::alloc::Global;
 
@@ -34,107 +38,116 @@ fn items(alloc: Global, tokens: &[Token]) -> Result<(Items, &[Token]), SynBad>
         let at = star.at;
         return Ok((Items::All { at }, rest));
     }
-    let (list, rest) = list(alloc, ENTRIES, tokens)?;
+    let (list, rest) = list::<Item, Symbol>(alloc, Symbol::Comma, ENTRIES, tokens)?;
     Ok((Items::List(list), rest))
 }
 
-// Whether a comma or a join comes next.
-fn joins(tokens: &[Token]) -> bool
-    ensures { result ≡ sees joins tokens.now }
+// "," | [ INNER ] JOIN | LEFT [ OUTER ] JOIN
+#[tactic(auto, unfolding(crate::specs::Reading::link_at))]
+fn link(tokens: &[Token]) -> Result<(Link, &[Token]), SynBad>
+    ensures { Gives (λ x. (x.0, x.1.now)) result (link_at tokens.now) }
 {
-    match tokens {
-        [] => false,
-        [token, ..] => is(Symbol::Comma, token)
-            || is(Symbol::Join, token)
-            || is(Symbol::Inner, token),
+    if let Some(rest) = after(Symbol::Comma, tokens) {
+        return Ok((Link::Comma, rest));
     }
-}
-
-// "," | [ INNER ] JOIN: whether it is a join
-#[tactic(auto, unfolding(crate::specs::Reading::join_at))]
-fn join(tokens: &[Token]) -> Result<(bool, &[Token]), SynBad>
-    ensures { Gives (λ x. (x.0, x.1.now)) result (join_at tokens.now) }
-{
-    if let Some(rest) = behind(Symbol::Comma, tokens) {
-        return Ok((false, rest));
-    }
-    if let Some(rest) = behind(Symbol::Inner, tokens) {
+    if let Some(rest) = after(Symbol::Inner, tokens) {
         let (_, rest) = token(Symbol::Join, rest)?;
-        return Ok((true, rest));
+        return Ok((Link::Join, rest));
+    }
+    if let Some(rest) = after(Symbol::Left, tokens) {
+        let (_, rest) = optional(Symbol::Outer, rest);
+        let (_, rest) = token(Symbol::Join, rest)?;
+        return Ok((Link::LeftJoin, rest));
     }
     let (_, rest) = token(Symbol::Join, tokens)?;
-    Ok((true, rest))
+    Ok((Link::Join, rest))
+}
+
+// ON cond
+#[tactic(auto, unfolding(crate::specs::Reading::join_condition_at))]
+fn join_condition(alloc: Global, tokens: &[Token]) -> Result<(Option<Test>, &[Token]), SynBad>
+    ensures { Gives (λ x. (x.0, x.1.now)) result (join_condition_at 32 tokens.now) }
+{
+    let (_, rest) = token(Symbol::On, tokens)?;
+    let (cond, rest) = condition(alloc, false, OPEN, rest)?;
+    Ok((Some(cond), rest))
 }
 
 // ON cond, where the source is joined
 #[tactic(auto, unfolding(crate::specs::Reading::on_at))]
-fn on(alloc: Global, joined: bool, tokens: &[Token]) -> Result<(Option<Test>, &[Token]), SynBad>
-    ensures { Gives (λ x. (x.0, x.1.now)) result (on_at 32 joined tokens.now) }
+fn on(alloc: Global, link: Link, tokens: &[Token]) -> Result<(Option<Test>, &[Token]), SynBad>
+    ensures { Gives (λ x. (x.0, x.1.now)) result (on_at 32 link tokens.now) }
 {
-    if joined {
-        let (_, rest) = token(Symbol::On, tokens)?;
-        let (cond, rest) = condition(alloc, false, OPEN, rest)?;
-        return Ok((Some(cond), rest));
+    match link {
+        Link::Comma => Ok((None, tokens)),
+        Link::Join => join_condition(alloc, tokens),
+        Link::LeftJoin => join_condition(alloc, tokens),
     }
-    Ok((None, tokens))
 }
 
 // source = name [ [ AS ] name ], with its condition where it is joined
 #[tactic(auto, unfolding(crate::specs::Reading::source_at))]
-fn source(alloc: Global, joined: bool, tokens: &[Token]) -> Result<(Source, &[Token]), SynBad>
-    ensures { Gives (λ x. (x.0, x.1.now)) result (source_at 32 joined tokens.now) }
+fn source(alloc: Global, link: Link, tokens: &[Token]) -> Result<(Source, &[Token]), SynBad>
+    ensures { Gives (λ x. (x.0, x.1.now)) result (source_at 32 link tokens.now) }
 {
-    let (table, rest) = name(alloc, tokens)?;
+    let (table, rest) = name(alloc, Symbol::Name, tokens)?;
     let (alias, rest) = given(alloc, rest)?;
-    let (on, rest) = on(alloc, joined, rest)?;
-    Ok((Source { table, alias, on }, rest))
+    let (on, rest) = on(alloc, link, rest)?;
+    let left = link == Link::LeftJoin;
+    let source = Source {
+        table,
+        alias,
+        on,
+        left,
+    };
+    Ok((source, rest))
 }
 
-// A further source, or why there is none past the limit.
-fn next_source(
-    alloc: Global,
-    past: bool,
-    joined: bool,
-    tokens: &[Token],
-) -> Result<(Source, &[Token]), SynBad>
-    ensures { Gives (λ x. (x.0, x.1.now)) result (entry_at past (token_at (is symbol.Name)) (source_at 32 joined) tokens.now) }
-{
-    if past {
-        let (_, _) = token(Symbol::Name, tokens)?;
-        return Err(SynBad::TooMany(place(tokens)));
+impl Series for Source {
+    ghost use Rattle.pm_lexer.specs.declared.symbol.Symbol.TheVariants as symbol;
+    ghost use Rattle.pm_lexer.specs.Symbol.{is};
+    ghost use Rattle.pm_grammar.specs.Reading.{token_at};
+    ghost use Rattle.pm_syntax.specs.Terminals.{begins_link};
+    ghost use Rattle.pm_syntax.specs.Reading.{link_at, source_at};
+
+    type Separator = Link;
+
+    type Value = Source;
+
+    ghost starts = { begins_link };
+
+    ghost separates = { link_at };
+
+    ghost peeks = { token_at (is symbol.Name) };
+
+    ghost reads = { source_at 32 };
+
+    fn starts(tokens: &[Token]) -> bool {
+        sees(LinkStart, tokens)
     }
-    source(alloc, joined, tokens)
-}
 
-// Further sources.
-fn more_sources(
-    alloc: Global,
-    mut list: Sources,
-    mut rest: &[Token],
-) -> Result<(Sources, &[Token]), SynBad>
-    ensures { Gives (λ x. (x.0, x.1.now)) result (more_at joins join_at (token_at (is symbol.Name)) (source_at 32) 64 (length rest.entry.now) list rest.entry.now) }
-{
-    'sources: for _ in 0..rest.len() {
-        if !joins(rest) {
-            return Ok((list, rest));
-        }
-        let (joined, behind) = join(rest)?;
-        let (next, after) = next_source(alloc, list.len() >= ENTRIES, joined, behind)?;
-        list.push(next)?;
-        rest = after;
+    fn separate(tokens: &[Token]) -> Result<(Link, &[Token]), SynBad> {
+        link(tokens)
     }
-    Ok((list, rest))
+
+    fn peek(tokens: &[Token]) -> Result<(&Token, &[Token]), SynBad> {
+        token(Symbol::Name, tokens)
+    }
+
+    fn read(alloc: Global, link: Link, tokens: &[Token]) -> Result<(Source, &[Token]), SynBad> {
+        source(alloc, link, tokens)
+    }
 }
 
-// sources = source { "," source | [ INNER ] JOIN source ON cond }
+// sources = source { "," source | [ INNER ] JOIN source ON cond | LEFT [ OUTER ] JOIN source ON cond }
 #[tactic(auto, unfolding(crate::specs::Reading::sources_at))]
 fn sources(alloc: Global, tokens: &[Token]) -> Result<(Sources, &[Token]), SynBad>
     ensures { Gives (λ x. (x.0, x.1.now)) result (sources_at 32 tokens.now) }
 {
     let mut list = Sources::new(alloc);
-    let (first, rest) = source(alloc, false, tokens)?;
+    let (first, rest) = source(alloc, Link::Comma, tokens)?;
     list.push(first)?;
-    more_sources(alloc, list, rest)
+    further_series::<Source>(alloc, ENTRIES, list, rest)
 }
 
 // [ WHERE cond ]
@@ -142,7 +155,7 @@ fn sources(alloc: Global, tokens: &[Token]) -> Result<(Sources, &[Token]), SynBa
 fn filter(alloc: Global, tokens: &[Token]) -> Result<(Option<Test>, &[Token]), SynBad>
     ensures { Gives (λ x. (x.0, x.1.now)) result (where_at 32 tokens.now) }
 {
-    let Some(rest) = behind(Symbol::Where, tokens) else {
+    let Some(rest) = after(Symbol::Where, tokens) else {
         return Ok((None, tokens));
     };
     let (cond, rest) = condition(alloc, false, OPEN, rest)?;
@@ -154,11 +167,11 @@ fn filter(alloc: Global, tokens: &[Token]) -> Result<(Option<Test>, &[Token]), S
 fn groups(alloc: Global, tokens: &[Token]) -> Result<(ColumnNames, &[Token]), SynBad>
     ensures { Gives (λ x. (x.0, x.1.now)) result (groups_at tokens.now) }
 {
-    let Some(rest) = behind(Symbol::Group, tokens) else {
+    let Some(rest) = after(Symbol::Group, tokens) else {
         return Ok((ColumnNames::new(alloc), tokens));
     };
     let (_, rest) = token(Symbol::By, rest)?;
-    list(alloc, ENTRIES, rest)
+    list::<ColumnName, Symbol>(alloc, Symbol::Comma, ENTRIES, rest)
 }
 
 // [ HAVING cond ]
@@ -166,7 +179,7 @@ fn groups(alloc: Global, tokens: &[Token]) -> Result<(ColumnNames, &[Token]), Sy
 fn having(alloc: Global, tokens: &[Token]) -> Result<(Option<Test>, &[Token]), SynBad>
     ensures { Gives (λ x. (x.0, x.1.now)) result (having_at 32 tokens.now) }
 {
-    let Some(rest) = behind(Symbol::Having, tokens) else {
+    let Some(rest) = after(Symbol::Having, tokens) else {
         return Ok((None, tokens));
     };
     let (cond, rest) = condition(alloc, true, OPEN, rest)?;
@@ -178,11 +191,11 @@ fn having(alloc: Global, tokens: &[Token]) -> Result<(Option<Test>, &[Token]), S
 fn orders(alloc: Global, tokens: &[Token]) -> Result<(OrderItems, &[Token]), SynBad>
     ensures { Gives (λ x. (x.0, x.1.now)) result (orders_at tokens.now) }
 {
-    let Some(rest) = behind(Symbol::Order, tokens) else {
+    let Some(rest) = after(Symbol::Order, tokens) else {
         return Ok((OrderItems::new(alloc), tokens));
     };
     let (_, rest) = token(Symbol::By, rest)?;
-    list(alloc, ENTRIES, rest)
+    list::<OrderItem, Symbol>(alloc, Symbol::Comma, ENTRIES, rest)
 }
 
 // A whole statement.
@@ -230,9 +243,8 @@ fn whole(alloc: Global, tokens: &[Token]) -> Result<Select, SynBad>
 ///
 /// `Expected` is the first token with which no statement begins, `TooDeep` the parenthesis or NOT that is the 33rd open
 /// one, and `TooMany` the first token of the entry past the limit of its list; each comes exactly where the tokens call
-/// for it, which is the one with the least place. `Memory` is want of memory; it also stands for a number of more than
-/// 31 bytes, which no text has. The grammar is a part of SQL's. The time is linear in the tokens, and the depth of calls
-/// is bounded.
+/// for it, which is the one with the least place. `Memory` is want of memory. The grammar is a part of SQL's. The time is
+/// linear in the tokens, and the depth of calls is bounded.
 pub fn parse(alloc: Global, tokens: &Tokens) -> Result<Select, SynBad>
     ensures answers { CallsFor tokens.now result ⊎ IsErrOf result bad.Memory }
     ensures only { (answer : Result Select SynBad) → CallsFor tokens.now answer → (result ≡ answer) ⊎ IsErrOf result bad.Memory }

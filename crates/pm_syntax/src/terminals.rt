@@ -1,99 +1,87 @@
-ghost use Rattle.std.specs.Prelude.{◌≡◌, ◌≤◌, ◌<◌, ◌^◌, true, false, length, drop, filter, pos, MatchOption, IfOk, IfErr, IsSome, Some, is_some};
-ghost use Rattle.std.specs.Option.{option_copied};
-ghost use Rattle.std.specs.Char.{is_ascii_digit};
+//! Terminals of the grammar that are more than one symbol, and what single tokens stand for.
+ghost use Rattle.std.specs.Prelude.{◌≡◌};
 ghost use Rattle.std.specs.Str.{str_eq_ignore_ascii_case};
-ghost use Rattle.pm_lexer.specs.Symbol.{is};
-ghost use Rattle.pm_grammar.specs.Reading.{sees, token_at, place_of};
-ghost use Rattle.pm_syntax.specs.Terminals.{named, func_named, func_of, comparison_of, magnitude};
-ghost use Rattle.pm_syntax.specs.Reading.{Gives, optional_at, name_at};
+ghost use Rattle.pm_syntax.specs.Terminals.{func_named, func_of, comparison_of};
 
-use crate::fault::SynBad;
-use crate::tree::{Func, PlacedName};
-use pm_lexer::{Symbol, Token, TokenKind, content};
+use crate::tree::Func;
+use pm_grammar::Terminal;
+use pm_lexer::{Symbol, Token, TokenKind};
 use pm_values::Comparison;
-use std::alloc::Global;
 
-// Whether a token is this symbol.
-#[tactic(auto, unfolding(pm_lexer::specs::Symbol::same_symbol))]
-pub(crate) fn is(symbol: Symbol, token: &Token) -> bool
-    ensures { result ≡ is symbol token.now }
-{
-    Symbol::of(token) == symbol
-}
+/// A sign of a comparison.
+#[derive(Clone, Copy)]
+pub(crate) struct ComparisonSign;
 
-// The place where the tokens go on.
-pub(crate) fn place(tokens: &[Token]) -> u64
-    ensures { result ≡ place_of tokens.now }
-{
-    match tokens {
-        [] => 0,
-        [token, ..] => token.at,
+impl Terminal for ComparisonSign {
+    ghost use Rattle.pm_syntax.specs.Terminals.{compares};
+
+    ghost accepts = { λ _. compares };
+
+    fn accepts(self, token: &Token) -> bool {
+        comparison(token).is_some()
     }
 }
 
-// Whether this symbol comes next.
-pub(crate) fn sees(symbol: Symbol, tokens: &[Token]) -> bool
-    ensures { result ≡ sees (is symbol) tokens.now }
-{
-    match tokens {
-        [] => false,
-        [token, ..] => is(symbol, token),
+/// A token that begins a literal.
+#[derive(Clone, Copy)]
+pub(crate) struct LiteralStart;
+
+impl Terminal for LiteralStart {
+    ghost use Rattle.pm_syntax.specs.Terminals.{begins_literal};
+
+    ghost accepts = { λ _. begins_literal };
+
+    fn accepts(self, token: &Token) -> bool {
+        Symbol::Minus.accepts(token)
+            || Symbol::Text.accepts(token)
+            || Symbol::Null.accepts(token)
+            || Symbol::Number.accepts(token)
     }
 }
 
-// What follows this symbol, if it comes next.
-pub(crate) fn behind(symbol: Symbol, tokens: &[Token]) -> Option<&[Token]>
-    ensures { MatchOption result (sees (is symbol) tokens.now ≡ false) (λ rest. (sees (is symbol) tokens.now ≡ true) × (rest.now ≡ drop 1 tokens.now)) }
-{
-    match tokens {
-        [token, rest @ ..] if is(symbol, token) => Some(rest),
-        _ => None,
+/// A token that begins a test.
+#[derive(Clone, Copy)]
+pub(crate) struct TestStart;
+
+impl Terminal for TestStart {
+    ghost use Rattle.pm_syntax.specs.Terminals.{begins_test};
+
+    ghost accepts = { λ _. begins_test };
+
+    fn accepts(self, token: &Token) -> bool {
+        Symbol::Name.accepts(token) || LiteralStart.accepts(token)
     }
 }
 
-// The token of this symbol, and what follows it.
-pub(crate) fn token(symbol: Symbol, tokens: &[Token]) -> Result<(&Token, &[Token]), SynBad>
-    ensures { Gives (λ x. (x.0.now, x.1.now)) result (token_at (is symbol) tokens.now) }
-{
-    match tokens {
-        [] => Err(SynBad::Expected(0)),
-        [token, rest @ ..] => {
-            if is(symbol, token) {
-                Ok((token, rest))
-            } else {
-                Err(SynBad::Expected(token.at))
-            }
-        }
+/// A token that begins a part of a condition one level deeper: NOT or an open parenthesis.
+#[derive(Clone, Copy)]
+pub(crate) struct Opening;
+
+impl Terminal for Opening {
+    ghost use Rattle.pm_syntax.specs.Terminals.{opens};
+
+    ghost accepts = { λ _. opens };
+
+    fn accepts(self, token: &Token) -> bool {
+        Symbol::Not.accepts(token) || Symbol::Open.accepts(token)
     }
 }
 
-// The token of this symbol, if it comes next, and what follows.
-pub(crate) fn optional(symbol: Symbol, tokens: &[Token]) -> (Option<&Token>, &[Token])
-    ensures { (option_copied result.0, result.1.now) ≡ optional_at (is symbol) tokens.now }
-{
-    match tokens {
-        [token, rest @ ..] if is(symbol, token) => (Some(token), rest),
-        _ => (None, tokens),
+/// A token that begins what joins a further source.
+#[derive(Clone, Copy)]
+pub(crate) struct LinkStart;
+
+impl Terminal for LinkStart {
+    ghost use Rattle.pm_syntax.specs.Terminals.{begins_link};
+
+    ghost accepts = { λ _. begins_link };
+
+    fn accepts(self, token: &Token) -> bool {
+        Symbol::Comma.accepts(token)
+            || Symbol::Join.accepts(token)
+            || Symbol::Inner.accepts(token)
+            || Symbol::Left.accepts(token)
     }
-}
-
-// A name and its place.
-pub(crate) fn placed(alloc: Global, token: &Token) -> Result<PlacedName, SynBad>
-    ensures ok { IfOk result (λ name. name ≡ named token.now) }
-    ensures err { IfErr result (λ e. e ≡ SynBad.Memory) }
-{
-    let text = content(alloc, token)?;
-    let at = token.at;
-    Ok(PlacedName { text, at })
-}
-
-#[tactic(auto, unfolding(crate::specs::Reading::name_at))]
-pub(crate) fn name(alloc: Global, tokens: &[Token]) -> Result<(PlacedName, &[Token]), SynBad>
-    ensures { Gives (λ x. (x.0, x.1.now)) result (name_at tokens.now) }
-{
-    let (first, rest) = token(Symbol::Name, tokens)?;
-    let name = placed(alloc, first)?;
-    Ok((name, rest))
 }
 
 // The function that a plain name names.

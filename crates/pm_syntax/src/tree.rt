@@ -1,13 +1,8 @@
+//! The trees of statements, with the places of what was read.
+use pm_grammar::PlacedName;
 use pm_values::{Comparison, Txt};
 
-/// A name without its outer quotes, each doubled quote once, and its place, a byte offset from 0.
-#[derive(Debug, Drop)]
-pub struct PlacedName {
-    pub text: Txt,
-    pub at: u64,
-}
-
-/// A column by its name, behind the alias of its source where one stands.
+/// A column by its name, after the alias of its source where one stands.
 #[derive(Debug, Drop)]
 pub struct ColumnName {
     pub alias: Option<PlacedName>,
@@ -57,13 +52,23 @@ pub enum Items {
     List(SelectItems),
 }
 
-/// An entry of FROM: a table, the name that it is given, and the condition behind ON. The first entry and an entry
-/// behind a comma have no condition.
+/// How an entry of FROM follows those before it: after a comma, as the first entry does after FROM, after JOIN or INNER
+/// JOIN, or after LEFT JOIN or LEFT OUTER JOIN.
+#[derive(Clone, Copy, Debug, PartialEq, Eq)]
+pub enum Link {
+    Comma,
+    Join,
+    LeftJoin,
+}
+
+/// An entry of FROM: a table, the name that it is given, the condition after ON, and whether it stands after LEFT JOIN.
+/// The first entry and an entry after a comma have no condition.
 #[derive(Debug, Drop)]
 pub struct Source {
     pub table: PlacedName,
     pub alias: Option<PlacedName>,
     pub on: Option<Test>,
+    pub left: bool,
 }
 
 /// A list of sources.
@@ -88,7 +93,7 @@ pub enum Atom {
 }
 
 /// A condition. `Any` and `All` are lists of two or more members between OR and AND. `at` is the place of the
-/// comparison sign, or of the word NOT, IN or BETWEEN behind the first operand.
+/// comparison sign, or of the word NOT, IN or BETWEEN after the first operand.
 #[derive(Debug, Drop)]
 pub enum Test {
     Any(sqlite_items::Items<Test>),

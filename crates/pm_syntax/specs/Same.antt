@@ -1,6 +1,6 @@
--- Trees that agree in all but places.
+-- Statements that agree in all but places.
 use Rattle.std.specs.Prelude.{◌≡◌, map, Option, Some, None}
-use Rattle.pm_syntax.specs.declared.tree.PlacedName.{PlacedName}
+use Rattle.pm_grammar.specs.declared.names.PlacedName.{PlacedName}
 use Rattle.pm_syntax.specs.declared.tree.ColumnName.{ColumnName}
 use Rattle.pm_syntax.specs.declared.tree.Expr.{Expr}
 use Rattle.pm_syntax.specs.declared.tree.Expr.TheVariants as expr
@@ -58,7 +58,8 @@ abbrev pub unplaced_test : Test → Test
 unplaced_test = fold-Test Test unplaced_layer
 
 abbrev pub unplaced_source : Source → Source
-unplaced_source source = record { table = unplaced_name source.table; alias = unplaced_option unplaced_name source.alias; on = unplaced_option unplaced_test source.on }
+unplaced_source source =
+    record { table = unplaced_name source.table; alias = unplaced_option unplaced_name source.alias; on = unplaced_option unplaced_test source.on; left = source.left }
 
 abbrev pub unplaced_key : OrderItem → OrderItem
 unplaced_key key = record key { expr = unplaced_expr key.expr }
@@ -75,5 +76,5 @@ unplaced s = record {
 }
 
 -- the same statement, but for places
-abbrev pub SameTree : Select → Select → Type 0
-SameTree a b = unplaced a ≡ unplaced b
+abbrev pub SameStatement : Select → Select → Type 0
+SameStatement a b = unplaced a ≡ unplaced b
