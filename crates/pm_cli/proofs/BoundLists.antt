@@ -7,7 +7,7 @@ use Rattle.pm_plan.specs.declared.gauge.Gauge.{Gauge}
 use Rattle.pm_plan.specs.declared.gauge.Bound.{Bound}
 use Rattle.pm_plan.specs.declared.plan.Node.{Node}
 use Rattle.pm_plan.specs.declared.plan.Node.TheVariants as node
-use Rattle.pm_plan.specs.Tree.{Tree, Scan, Project}
+use Rattle.pm_plan.specs.Tree.{Tree, Scan, Over, Filter, Project, Sort, Group, Join, Index}
 use Rattle.pm_plan.specs.Preorder.{nodes_of}
 use Rattle.pm_work.specs.Moments.{Gauges, gauge_in}
 use Rattle.pm_bounds.specs.Bounds.{bound_of, bounds_of}
@@ -16,19 +16,31 @@ use Rattle.pm_cli.specs.Bounds.{node_bound, HasChildren}
 
 pub length-bounds : (t : Tree) (n : ℕ) (G : Gauges) → IsProjectedScan t → length (bounds_of t n G) ≡ length (nodes_of t n)
 length-bounds (Scan table label) n G p = refl
-length-bounds (Project child columns) n G p = ap suc (length-bounds child (n + 1) G p)
-length-bounds _ n G p = absurd p
+length-bounds (Over (Project columns) child) n G p = ap suc (length-bounds child (n + 1) G p)
+length-bounds (Over (Filter cond) child) n G p = absurd p
+length-bounds (Over (Sort keys) child) n G p = absurd p
+length-bounds (Over (Group keys items) child) n G p = absurd p
+length-bounds (Join method on left right) n G p = absurd p
+length-bounds (Index left seek cond) n G p = absurd p
 
 nodes-some : (t : Tree) (n : ℕ) → 0 < length (nodes_of t n)
 nodes-some (Scan table label) n = omega arith
-nodes-some _ n = omega arith
+nodes-some (Over (Filter cond) child) n = omega arith
+nodes-some (Over (Sort keys) child) n = omega arith
+nodes-some (Over (Group keys items) child) n = omega arith
+nodes-some (Join method on left right) n = omega arith
+nodes-some (Index left seek cond) n = omega arith
 
 abbrev none : Bound
 none = record { lo = 0; hi = 0 }
 
 first-bound : (t : Tree) (n : ℕ) (G : Gauges) → get_or (bounds_of t n G) 0 none ≡ bound_of t n G
 first-bound (Scan table label) n G = refl
-first-bound _ n G = refl
+first-bound (Over (Filter cond) child) n G = refl
+first-bound (Over (Sort keys) child) n G = refl
+first-bound (Over (Group keys items) child) n G = refl
+first-bound (Join method on left right) n G = refl
+first-bound (Index left seek cond) n G = refl
 
 -- node number m stands at place k, among nodes with these bounds
 abbrev IsBoundedBy : Gauges → List Bound → ℕ → ℕ → Option Node → Type 0
@@ -49,13 +61,17 @@ shifted G bounds b m k (Some _) h = absurd h
 bounded : (t : Tree) (n k : ℕ) (G : Gauges) → IsProjectedScan t → IsBoundedBy G (bounds_of t n G) (n + k) k (slice_get (nodes_of t n) k)
 bounded (Scan table label) n zero G p = let same : n + 0 ≡ n = omega arith in rw same refl
 bounded (Scan table label) n (suc k) G p = tt
-bounded (Project child columns) n zero G p =
+bounded (Over (Project columns) child) n zero G p =
     (omega arith, sym (first-bound child (n + 1) G), omega (arith, length-bounds child (n + 1) G p, nodes-some child (n + 1)))
-bounded (Project child columns) n (suc k) G p =
+bounded (Over (Project columns) child) n (suc k) G p =
     let next : n + 1 + k ≡ n + suc k = omega arith in
-    shifted G (bounds_of child (n + 1) G) (bound_of (Project child columns) n G) (n + suc k) k (slice_get (nodes_of child (n + 1)) k)
+    shifted G (bounds_of child (n + 1) G) (bound_of (Over (Project columns) child) n G) (n + suc k) k (slice_get (nodes_of child (n + 1)) k)
     (subst (λ m. IsBoundedBy G (bounds_of child (n + 1) G) m k (slice_get (nodes_of child (n + 1)) k)) next (bounded child (n + 1) k G p))
-bounded _ n k G p = absurd p
+bounded (Over (Filter cond) child) n k G p = absurd p
+bounded (Over (Sort keys) child) n k G p = absurd p
+bounded (Over (Group keys items) child) n k G p = absurd p
+bounded (Join method on left right) n k G p = absurd p
+bounded (Index left seek cond) n k G p = absurd p
 
 abbrev none_of : Gauges
 none_of = gauge_in []

@@ -6,7 +6,7 @@ use Rattle.std.proofs.lemmas.Bool.Decides.{eqb_tells}
 use Rattle.std.proofs.lemmas.Option.{slice_get_read}
 use Rattle.pm_plan.specs.declared.gauge.Gauge.{Gauge}
 use Rattle.pm_plan.specs.Rows.{Db, table_rows}
-use Rattle.pm_plan.specs.Tree.{Tree, Scan, Project, size}
+use Rattle.pm_plan.specs.Tree.{Tree, Scan, Over, Filter, Project, Sort, Group, Join, Index, size}
 use Rattle.pm_plan.specs.Preorder.{nodes_of}
 use Rattle.pm_work.specs.Events.{Event, events, rows_at, counts}
 use Rattle.pm_work.specs.Moments.{Counts, gauge_of, gauges_of, gauges_at, counts_at}
@@ -19,33 +19,49 @@ use Rattle.pm_cli.proofs.Drops.{take-next}
 -- before the first event
 pub gauges-first : (db : Db) (t : Tree) (n : ℕ) → IsProjectedScan t → map (gauge_before db) (nodes_of t n) ≡ gauges_of db t n (counts [])
 gauges-first db (Scan table label) n p = refl
-gauges-first db (Project child columns) n p = ap (λ s. gauge_of db (Project child columns) n (counts []) ∷ s) (gauges-first db child (n + 1) p)
-gauges-first db _ n p = absurd p
+gauges-first db (Over (Project columns) child) n p = ap (λ s. gauge_of db (Over (Project columns) child) n (counts []) ∷ s) (gauges-first db child (n + 1) p)
+gauges-first db (Over (Filter cond) child) n p = absurd p
+gauges-first db (Over (Sort keys) child) n p = absurd p
+gauges-first db (Over (Group keys items) child) n p = absurd p
+gauges-first db (Join method on left right) n p = absurd p
+gauges-first db (Index left seek cond) n p = absurd p
 
 length-gauges : (db : Db) (t : Tree) (n : ℕ) (K : Counts) → IsProjectedScan t → length (gauges_of db t n K) ≡ size t
 length-gauges db (Scan table label) n K p = refl
-length-gauges db (Project child columns) n K p = omega (arith, length-gauges db child (n + 1) K p)
-length-gauges db _ n K p = absurd p
+length-gauges db (Over (Project columns) child) n K p = omega (arith, length-gauges db child (n + 1) K p)
+length-gauges db (Over (Filter cond) child) n K p = absurd p
+length-gauges db (Over (Sort keys) child) n K p = absurd p
+length-gauges db (Over (Group keys items) child) n K p = absurd p
+length-gauges db (Join method on left right) n K p = absurd p
+length-gauges db (Index left seek cond) n K p = absurd p
 
 gauges-same : (db : Db) (t : Tree) (n : ℕ) (K L : Counts) → IsProjectedScan t → ((q : ℕ) → n ≤ q → L q ≡ K q) → gauges_of db t n L ≡ gauges_of db t n K
 gauges-same db (Scan table label) n K L s p =
     let m : ℕ = length (table_rows db table) in
     ap (λ h. record { handed = h; settled = m; worst = 0; size = m } ∷ []) (p n (omega arith))
-gauges-same db (Project child columns) n K L s p =
+gauges-same db (Over (Project columns) child) n K L s p =
     ap (λ h. record { handed = h; settled = 0; worst = 0; size = 0 } ∷ gauges_of db child (n + 1) L) (p n (omega arith))
-    ∙ ap (λ s. gauge_of db (Project child columns) n K ∷ s) (gauges-same db child (n + 1) K L s (λ q l. p q (omega arith)))
-gauges-same db _ n K L s p = absurd s
+    ∙ ap (λ s. gauge_of db (Over (Project columns) child) n K ∷ s) (gauges-same db child (n + 1) K L s (λ q l. p q (omega arith)))
+gauges-same db (Over (Filter cond) child) n K L s p = absurd s
+gauges-same db (Over (Sort keys) child) n K L s p = absurd s
+gauges-same db (Over (Group keys items) child) n K L s p = absurd s
+gauges-same db (Join method on left right) n K L s p = absurd s
+gauges-same db (Index left seek cond) n K L s p = absurd s
 
 gauges-get : (db : Db) (t : Tree) (n : ℕ) (K : Counts) (k : ℕ) (g : Gauge) → IsProjectedScan t → slice_get (gauges_of db t n K) k ≡ Some g → g.handed ≡ K (n + k)
 gauges-get db (Scan table label) n K zero g s e =
     let same : gauge_of db (Scan table label) n K ≡ g = cc in
     ap (λ x. x.handed) (sym same) ∙ ap K (omega arith)
 gauges-get db (Scan table label) n K (suc k) g s e = absurd cc
-gauges-get db (Project child columns) n K zero g s e =
-    let same : gauge_of db (Project child columns) n K ≡ g = cc in
+gauges-get db (Over (Project columns) child) n K zero g s e =
+    let same : gauge_of db (Over (Project columns) child) n K ≡ g = cc in
     ap (λ x. x.handed) (sym same) ∙ ap K (omega arith)
-gauges-get db (Project child columns) n K (suc k) g s e = gauges-get db child (n + 1) K k g s e ∙ ap K (omega arith)
-gauges-get db _ n K k g s e = absurd s
+gauges-get db (Over (Project columns) child) n K (suc k) g s e = gauges-get db child (n + 1) K k g s e ∙ ap K (omega arith)
+gauges-get db (Over (Filter cond) child) n K k g s e = absurd s
+gauges-get db (Over (Sort keys) child) n K k g s e = absurd s
+gauges-get db (Over (Group keys items) child) n K k g s e = absurd s
+gauges-get db (Join method on left right) n K k g s e = absurd s
+gauges-get db (Index left seek cond) n K k g s e = absurd s
 
 -- a gauge with one row more handed out
 abbrev pub one_more : Gauge → Gauge
@@ -60,19 +76,23 @@ gauges-set db (Scan table label) n K L zero g p e own others =
     let m : ℕ = length (table_rows db table) in
     ap (λ x. one_more x ∷ []) (sym same) ∙ ap (λ h. record { handed = h; settled = m; worst = 0; size = m } ∷ []) here
 gauges-set db (Scan table label) n K L (suc k) g p e own others = absurd cc
-gauges-set db (Project child columns) n K L zero g p e own others =
-    let same : gauge_of db (Project child columns) n K ≡ g = cc in
+gauges-set db (Over (Project columns) child) n K L zero g p e own others =
+    let same : gauge_of db (Over (Project columns) child) n K ≡ g = cc in
     let here : K n + 1 ≡ L n = subst (λ m. K m + 1 ≡ L m) (omega arith) (sym own) in
     ap (λ x. one_more x ∷ gauges_of db child (n + 1) K) (sym same)
     ∙ ap (λ h. record { handed = h; settled = 0; worst = 0; size = 0 } ∷ gauges_of db child (n + 1) K) here
-    ∙ ap (λ s. gauge_of db (Project child columns) n L ∷ s) (sym (gauges-same db child (n + 1) K L p (λ q l. others q (omega arith))))
-gauges-set db (Project child columns) n K L (suc k) g p e own others =
+    ∙ ap (λ s. gauge_of db (Over (Project columns) child) n L ∷ s) (sym (gauges-same db child (n + 1) K L p (λ q l. others q (omega arith))))
+gauges-set db (Over (Project columns) child) n K L (suc k) g p e own others =
     let place : n + suc k ≡ n + 1 + k = omega arith in
     let same : L n ≡ K n = others n (omega arith) in
     ap (λ h. record { handed = h; settled = 0; worst = 0; size = 0 } ∷ slice_set (gauges_of db child (n + 1) K) k (one_more g)) (sym same)
-    ∙ ap (λ s. gauge_of db (Project child columns) n L ∷ s)
+    ∙ ap (λ s. gauge_of db (Over (Project columns) child) n L ∷ s)
     (gauges-set db child (n + 1) K L k g p e (subst (λ m. L m ≡ K m + 1) place own) (λ q o. others q (subst (λ m. q ≢ m) (sym place) o)))
-gauges-set db _ n K L k g p e own others = absurd p
+gauges-set db (Over (Filter cond) child) n K L k g p e own others = absurd p
+gauges-set db (Over (Sort keys) child) n K L k g p e own others = absurd p
+gauges-set db (Over (Group keys items) child) n K L k g p e own others = absurd p
+gauges-set db (Join method on left right) n K L k g p e own others = absurd p
+gauges-set db (Index left seek cond) n K L k g p e own others = absurd p
 
 Within-get : (a b k : ℕ) (es : List Event) (e : Event) → Within a b es → slice_get es k ≡ Some e → (a ≤ e.node) × (e.node < b)
 Within-get a b k [] e w at = absurd cc

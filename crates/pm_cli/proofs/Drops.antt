@@ -2,7 +2,7 @@
 use Rattle.std.proofs.Common.{◌≡◌, ℕ, zero, suc, ◌+◌, ◌<◌, List, [], ◌∷◌, ◌++◌, length, drop, take, refl, ap, arith, add-one}
 use Rattle.std.specs.Prelude.{Some, None, slice_get}
 use Rattle.pm_values.specs.Row.{Row}
-use Rattle.pm_work.specs.Events.{handed}
+use Rattle.pm_work.specs.Events.{events_of}
 use Rattle.pm_cli.specs.Left.{last_of}
 
 drop-next : (k : ℕ) (rows : List Row) → k < length rows → drop k rows ≡ last_of (suc k) rows ∷ drop (suc k) rows
@@ -12,8 +12,8 @@ drop-next (suc k) (r ∷ rows) l = drop-next k rows (omega arith)
 
 -- the events of a scan
 pub handed-next : (n k : ℕ) (rows : List Row) → k < length rows
-    → handed n (drop k rows) ≡ record { node = n; row = last_of (suc k) rows } ∷ handed n (drop (suc k) rows)
-handed-next n k rows l = ap (handed n) (drop-next k rows l)
+    → events_of n (drop k rows) ≡ record { node = n; row = last_of (suc k) rows } ∷ events_of n (drop (suc k) rows)
+handed-next n k rows l = ap (events_of n) (drop-next k rows l)
 
 module _ {X : Type 0} where
   pub get-of_drop : (k : ℕ) (xs ys : List X) (y : X) → drop k xs ≡ y ∷ ys → slice_get xs k ≡ Some y

@@ -8,28 +8,25 @@ use Rattle.pm_plan.specs.declared.plan.Node.{Node}
 use Rattle.pm_plan.specs.declared.plan.Node.TheVariants as node
 use Rattle.pm_values.specs.Row.{pick}
 use Rattle.pm_plan.specs.Rows.{Db, table_rows}
-use Rattle.pm_plan.specs.Tree.{Tree, Scan, Project}
-use Rattle.pm_plan.specs.Preorder.{Heads, IsNumbered, tree_of}
-use Rattle.pm_work.specs.Events.{Event, events, after, handed}
+use Rattle.pm_plan.specs.Tree.{Tree, Scan, Over, Filter, Project, Sort, Group, Join, Index}
+use Rattle.pm_plan.specs.Preorder.{Rooted, IsTreeAt, IsNumbered, tree_of, node_at}
+use Rattle.pm_work.specs.Events.{Event, events, after, events_of}
 use Rattle.pm_cli.specs.TablePlan.{IsTablePlan, IsProjectedScan, below, tree_over}
-use Rattle.pm_work.proofs.EventLaws.{length-events}
+use Rattle.pm_plan.proofs.Inversion.{scan_at, over_at, rooted_same}
+use Rattle.pm_work.proofs.Counting.{length-events}
 use Rattle.pm_cli.specs.Left.{InPlan, IsScan, table_of, columns_of}
 use Rattle.pm_cli.specs.Fresh.{HasTables, HeadsTree, AreAll}
 
 module _ (nodes : List Node) (n : ℕ) where
-  scan_of : (t : Tree) (table : ℕ) (label : Label) → slice_get nodes (n - 1) ≡ Some (node.Scan table label) → Heads nodes t n
+  scan_of : (t : Tree) (table : ℕ) (label : Label) → node_at nodes n ≡ Some (node.Scan table label) → IsTreeAt nodes t n
       → t ≡ Scan table label
-  scan_of (Scan table' label') table label e s =
-      let tables : table' ≡ table = cc in
-      let labels : label' ≡ label = cc in
-      ap (λ x. Scan x label') tables ∙ ap (Scan table) labels
-  scan_of _ table label e s = let z = s.0 in absurd cc
+  scan_of t table label e s = rooted_same (scan_at nodes (Rooted t) n table label e s)
 
-  project_of : (t : Tree) (c : ℕ) (cs : List ℕ) → slice_get nodes (n - 1) ≡ Some (node.Project c cs) → Heads nodes t n
-      → (child : Tree) × (t ≡ Project child cs) × Heads nodes child (n + 1) × (c ≡ n + 1)
-  project_of (Scan table label) c cs e s = absurd cc
-  project_of (Project child columns) c cs e s = let z = s.0 in (child, ap (Project child) cc, s.1, cc)
-  project_of _ c cs e s = let z = s.0 in absurd cc
+  project_of : (t : Tree) (c : ℕ) (cs : List ℕ) → node_at nodes n ≡ Some (node.Project c cs) → IsTreeAt nodes t n
+      → (child : Tree) × (t ≡ Over (Project cs) child) × IsTreeAt nodes child (n + 1) × (c ≡ n + 1)
+  project_of t c cs e s =
+      let o = over_at nodes (Rooted t) n (Project cs) c e s in
+      (o.tree, rooted_same o.is, o.stands, o.child_is)
 
 module _ (db : Db) (nodes : List Node) (n : ℕ) where
   -- a node that heads a tree is a scan or a projection
@@ -37,10 +34,14 @@ module _ (db : Db) (nodes : List Node) (n : ℕ) where
       → ((table : ℕ) (label : Label) → x ≢ node.Scan table label) → ((c : ℕ) (cs : List ℕ) → x ≢ node.Project c cs) → ⊥
   scan_or_project x e w other_than_scan other_than_project = of w.0 w.1 w.2
     where
-      of : (t : Tree) → Heads nodes t n → HasTables db nodes t n → ⊥
+      of : (t : Tree) → IsTreeAt nodes t n → HasTables db nodes t n → ⊥
       of (Scan table label) s h = other_than_scan table label cc
-      of (Project child columns) s h = let z = s.0 in other_than_project (n + 1) columns cc
-      of _ s h = h
+      of (Over (Project columns) child) s h = let z = s.0 in other_than_project (n + 1) columns cc
+      of (Over (Filter cond) child) s h = h
+      of (Over (Sort keys) child) s h = h
+      of (Over (Group keys items) child) s h = h
+      of (Join method on left right) s h = h
+      of (Index left seek cond) s h = h
 
   pub scan_table : (table : ℕ) (label : Label) → slice_get nodes (n - 1) ≡ Some (node.Scan table label) → HeadsTree db nodes n
       → IsScan (slice_get nodes (n - 1)) db
@@ -49,7 +50,7 @@ module _ (db : Db) (nodes : List Node) (n : ℕ) where
       rw e f
 
   pub scan_all : (table : ℕ) (label : Label) → slice_get nodes (n - 1) ≡ Some (node.Scan table label)
-      → AreAll db nodes n (handed n (table_rows db (table_of (slice_get nodes (n - 1)))))
+      → AreAll db nodes n (events_of n (table_rows db (table_of (slice_get nodes (n - 1)))))
   scan_all table label e = record { each = λ t s. rw (scan_of nodes n t table label e s, e) refl }
 
   pub project_child : (c : ℕ) (cs : List ℕ) → slice_get nodes (n - 1) ≡ Some (node.Project c cs) → HeadsTree db nodes n
@@ -61,21 +62,21 @@ module _ (db : Db) (nodes : List Node) (n : ℕ) where
 
   pub project_all : (es : List Event) (c : ℕ) (cs : List ℕ) → slice_get nodes (n - 1) ≡ Some (node.Project c cs)
       → AreAll db nodes (n + 1) es
-      → AreAll db nodes n (after (n + 1) (λ row. handed n (pick (columns_of (slice_get nodes (n - 1))) row ∷ [])) es)
+      → AreAll db nodes n (after (n + 1) (λ row. events_of n (pick (columns_of (slice_get nodes (n - 1))) row ∷ [])) es)
   project_all es c cs e deep = record { each = each }
     where
-      each : (t : Tree) → Heads nodes t n
-          → after (n + 1) (λ row. handed n (pick (columns_of (slice_get nodes (n - 1))) row ∷ [])) es ≡ events db t n
-      each (Scan table label) s = absurd cc
-      each (Project child columns) s = rw (s.0, deep.each child s.1) refl
-      each _ s = let z = s.0 in absurd cc
+      each : (t : Tree) → IsTreeAt nodes t n
+          → after (n + 1) (λ row. events_of n (pick (columns_of (slice_get nodes (n - 1))) row ∷ [])) es ≡ events db t n
+      each t s =
+          let o = project_of nodes n t c cs e s in
+          rw (o.1, e, deep.each o.0 o.2) refl
 
 -- a plan that fits heads its tree, over the one table, and calls for two events a row
 pub record Headed (plan : Plan) (db : Db) : Type 0 where
   pub in_plan : InPlan plan.nodes 1
   pub numbered : IsNumbered plan.nodes
   pub scan : IsProjectedScan (tree_of plan.nodes)
-  pub heads : Heads plan.nodes (tree_of plan.nodes) 1
+  pub heads : IsTreeAt plan.nodes (tree_of plan.nodes) 1
   pub tables : HasTables db plan.nodes (tree_of plan.nodes) 1
   pub one : 0 < length db
   pub work : length (events db (tree_of plan.nodes) 1) ≡ 2 * length (table_rows db 0)

@@ -11,7 +11,7 @@ use Rattle.pm_values.specs.declared.value.Value.TheVariants as value
 use Rattle.pm_values.specs.declared.value.Kind.{Kind}
 use Rattle.pm_values.specs.declared.value.Kind.TheVariants as kind
 use Rattle.pm_values.specs.declared.table.ColumnDecl.{ColumnDecl}
-use Rattle.pm_values.specs.Table.{Relation, IsRelation, IsOfKind, FitsColumn, FitsColumns, HasScale, IsScale}
+use Rattle.pm_values.specs.Table.{Relation, IsRelation, IsOfKind, FitsColumn, FitsColumns, HasValidKind, IsValidKind}
 use Rattle.pm_values.specs.ValueText.{value_text, HasText}
 use Rattle.pm_plan.specs.declared.plan.Plan.{Plan}
 use Rattle.pm_values.specs.Row.{Row, cell}
@@ -32,7 +32,7 @@ FitsKinds [] (v ∷ row) = ⊥
 FitsKinds (k ∷ kinds) [] = ⊥
 FitsKinds (k ∷ kinds) (v ∷ row) = HasText k v × FitsKinds kinds row
 
-number-text : (k : Kind) (n : ℤ) → IsScale k → IsOfKind k (value.Int n) → HasText k (value.Int n)
+number-text : (k : Kind) (n : ℤ) → IsValidKind k → IsOfKind k (value.Int n) → HasText k (value.Int n)
 number-text kind.Int n s f = tt
 number-text (kind.Num scale) n s f = s
 number-text kind.Text n s f = f
@@ -42,12 +42,12 @@ text-text kind.Int t f = f
 text-text (kind.Num scale) t f = f
 text-text kind.Text t f = tt
 
-has-text : (column : ColumnDecl) (v : Value) → HasScale column → FitsColumn column v → HasText column.kind v
+has-text : (column : ColumnDecl) (v : Value) → HasValidKind column → FitsColumn column v → HasText column.kind v
 has-text column value.Null s f = tt
 has-text column (value.Int n) s f = number-text column.kind n s f
 has-text column (value.Text t) s f = text-text column.kind t f
 
-fits-kinds : (columns : List ColumnDecl) (row : Row) → AllByRecursion HasScale columns → FitsColumns columns row
+fits-kinds : (columns : List ColumnDecl) (row : Row) → AllByRecursion HasValidKind columns → FitsColumns columns row
     → FitsKinds (map (λ column. column.kind) columns) row
 fits-kinds [] [] s f = tt
 fits-kinds [] (v ∷ row) s f = absurd f
@@ -78,7 +78,7 @@ row-over table (suc k) declared is =
     let columns = table.decl.columns in
     let rows : AllByRecursion (FitsColumns columns) table.rows = recursion_from_All (FitsColumns columns) table.rows declared.fit in
     let whole : rows_at 1 es ≡ table.rows = rows_at-events (table ∷ []) (tree_over table.decl) 1 ∙ pick-all columns table.rows rows in
-    fits-kinds columns (row_in (slice_get es k)) (recursion_from_All HasScale columns declared.declared.scales)
+    fits-kinds columns (row_in (slice_get es k)) (recursion_from_All HasValidKind columns declared.declared.scales)
     (row-among (FitsColumns columns) 1 es k (subst (AllByRecursion (FitsColumns columns)) (sym whole) rows) is)
 
 row-under : (plan : Plan) (db : Db) (taken : ℕ) → IsTablePlan plan db → All IsRelation db

@@ -12,10 +12,11 @@ use Rattle.pm_plan.specs.Outputs.{output}
 use Rattle.pm_work.specs.Work.{whole_work}
 use Rattle.pm_work.specs.Events.{events, rows_at}
 use Rattle.pm_work.specs.Moments.{counts_at, gauges_at}
-use Rattle.pm_work.proofs.EventLaws.{length-events, rows_at-events}
+use Rattle.pm_work.proofs.Counting.{length-events}
+use Rattle.pm_work.proofs.EventLaws.{rows_at-events}
 use Rattle.pm_lines.specs.Progress.{end_line}
 use Rattle.pm_cli.specs.Ran.{Ran}
-use Rattle.pm_cli.specs.Ticks.{events_of, whole_work_of, last_event}
+use Rattle.pm_cli.specs.Ticks.{run_events, whole_work_of, last_event}
 use Rattle.pm_cli.specs.Text.{row_part, progress_part, event_lines, end_text, lines_until}
 use Rattle.pm_cli.specs.declared.run.Stage.TheVariants.{Going}
 use Rattle.pm_cli.specs.RunState.{RunState, whole_work_in, turn_text}
@@ -37,10 +38,10 @@ abbrev pub IsAfter : RunState → Ran → Type 0
 IsAfter run e = e ≡ record { plan = run.plan; db = run.db; taken = run.taken + 1 }
 
 pub parts : (run : RunState) (e : Ran) (plan : Plan) → IsAfter run e → plan ≡ run.plan
-    → row_part plan.kinds (last_event (events_of e) e.taken) ++ progress_part e.plan e.db run.every e.taken
+    → row_part plan.kinds (last_event (run_events e) e.taken) ++ progress_part e.plan e.db run.every e.taken
     ≡ event_lines run.plan run.db run.every (run.taken + 1)
 parts run e plan is same =
-    ap (λ (x : Ran). row_part plan.kinds (last_event (events_of x) x.taken) ++ progress_part x.plan x.db run.every x.taken) is
+    ap (λ (x : Ran). row_part plan.kinds (last_event (run_events x) x.taken) ++ progress_part x.plan x.db run.every x.taken) is
     ∙ ap (λ (p : Plan). row_part p.kinds (last_event (events run.db (tree_of run.plan.nodes) 1) (run.taken + 1)) ++ progress_part run.plan run.db run.every (run.taken + 1)) same
 
 pub room : (run : RunState) (e : Ran) → IsAfter run e → e.taken ≤ whole_work_of e → run.taken < whole_work_in run
@@ -51,7 +52,11 @@ room run e is within =
 -- after all events the root has handed out its output
 first-handed : (db : Db) (t : Tree) (k : ℕ) (d : Gauge) → (get_or (gauges_at db t k) 0 d).handed ≡ counts_at db t k 1
 first-handed db (Scan table label) k d = refl
-first-handed db _ k d = refl
+first-handed db (Over (Filter cond) child) k d = refl
+first-handed db (Over (Sort keys) child) k d = refl
+first-handed db (Over (Group keys items) child) k d = refl
+first-handed db (Join method on left right) k d = refl
+first-handed db (Index left seek cond) k d = refl
 
 pub root-rows : (db : Db) (t : Tree) (d : Gauge) → (get_or (gauges_at db t (whole_work db t)) 0 d).handed ≡ length (output db t)
 root-rows db t d =

@@ -11,8 +11,8 @@ use Rattle.pm_plan.specs.Preorder.{tree_of, IsNumbered}
 use Rattle.pm_work.specs.Work.{whole_work, scanned_rows}
 use Rattle.pm_work.specs.Moments.{counts_at, gauges_at}
 use Rattle.pm_cli.specs.TablePlan.{IsTablePlan, IsProjectedScan, below, tree_over, plan_over}
-use Rattle.pm_work.proofs.Totals.{counts-moment}
-use Rattle.pm_cli.specs.Estimates.{shown_at}
+use Rattle.pm_work.proofs.Counting.{counts-moment}
+use Rattle.pm_estim.specs.Estimates.{shown_at}
 use Rattle.pm_cli.specs.Sums.{SumsFit}
 
 -- what holds of the moment after t events

@@ -3,7 +3,7 @@ use Rattle.std.specs.Prelude.{◌≡◌, ◌≢◌, ◌⊎◌, ℕ, List, [], �
 use Rattle.pm_values.specs.Table.{Relation}
 use Rattle.pm_io.specs.Files.{Held}
 use Rattle.pm_cli.specs.TablePlan.{plan_over}
-use Rattle.pm_lines.specs.declared.refusal.Word.TheVariants as word
+use Rattle.pm_refusals.specs.declared.word.Word.TheVariants as word
 use Rattle.pm_lines.specs.declared.refusal.Values.TheVariants.{Zero, One, Two}
 use Rattle.pm_lines.specs.Refusals.{refusal_line}
 use Rattle.pm_tables.specs.declared.fault.DataBad.{DataBad}

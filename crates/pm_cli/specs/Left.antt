@@ -4,7 +4,7 @@ use Rattle.pm_plan.specs.declared.plan.Node.{Node}
 use Rattle.pm_plan.specs.declared.plan.Node.TheVariants as node
 use Rattle.pm_values.specs.Row.{Row, pick}
 use Rattle.pm_plan.specs.Rows.{Db, table_rows}
-use Rattle.pm_work.specs.Events.{Event, handed, after}
+use Rattle.pm_work.specs.Events.{Event, events_of, after}
 use Rattle.pm_cli.specs.declared.exec.iter.Iter.{Iter, Scan, Project'}
 use Rattle.pm_cli.specs.declared.exec.iter.Tick.{Tick}
 use Rattle.pm_cli.specs.declared.exec.iter.Tick.TheVariants as tick
@@ -52,10 +52,10 @@ row_at_hand db nodes n (Project' p child ready) =
 
 -- first the row that is ready, then the child's events, and right after each of its rows one of n's own
 abbrev pub events_left : Db → List Node → ℕ → Iter → List Event
-events_left db nodes n (Scan next) = handed n (drop next (table_rows db (table_of (slice_get nodes (n - 1)))))
+events_left db nodes n (Scan next) = events_of n (drop next (table_rows db (table_of (slice_get nodes (n - 1)))))
 events_left db nodes n (Project' p child ready) =
-    handed n (if ready then pick (columns_of (slice_get nodes (n - 1))) (row_at_hand db nodes (n + 1) child) ∷ [] else [])
-    ++ after (n + 1) (λ row. handed n (pick (columns_of (slice_get nodes (n - 1))) row ∷ []))
+    events_of n (if ready then pick (columns_of (slice_get nodes (n - 1))) (row_at_hand db nodes (n + 1) child) ∷ [] else [])
+    ++ after (n + 1) (λ row. events_of n (pick (columns_of (slice_get nodes (n - 1))) row ∷ []))
     (events_left db nodes (n + 1) child)
 
 -- a step of node n that answers this takes the first of the events that were left. A row of n's own is then at hand,

@@ -7,7 +7,7 @@ use Rattle.pm_cli.specs.TablePlan.{IsTablePlan}
 use Rattle.pm_work.specs.Moments.{gauges_at}
 use Rattle.pm_cli.specs.Left.{InPlan, IsIterOf, events_left, row_at_hand}
 use Rattle.pm_cli.specs.Ran.{Ran}
-use Rattle.pm_cli.specs.Ticks.{events_of, HasRootRow, last_row}
+use Rattle.pm_cli.specs.Ticks.{run_events, HasRootRow, last_row}
 use Rattle.pm_cli.specs.declared.exec.Exec.TheInside.{Inside}
 
 abbrev pub ran_of : Inside → Ran
@@ -19,9 +19,9 @@ pub record IsRunning (a : Inside) : Type 0 where
   pub declared : All IsRelation a.db.now
   pub in_plan : InPlan a.plan.now.nodes 1
   pub iter : IsIterOf a.plan.now.nodes a.db.now 1 a.root
-  pub left : events_left a.db.now a.plan.now.nodes 1 a.root ≡ drop a.taken (events_of (ran_of a))
-  pub within : a.taken ≤ length (events_of (ran_of a))
-  pub few : length (events_of (ran_of a)) < 2 ^ 128
+  pub left : events_left a.db.now a.plan.now.nodes 1 a.root ≡ drop a.taken (run_events (ran_of a))
+  pub within : a.taken ≤ length (run_events (ran_of a))
+  pub few : length (run_events (ran_of a)) < 2 ^ 128
   pub gauges : a.gauges.items ≡ gauges_at a.db.now (tree_of a.plan.now.nodes) a.taken
   pub hand : HasRootRow (ran_of a) → row_at_hand a.db.now a.plan.now.nodes 1 a.root ≡ last_row (ran_of a)
   pub null : a.null ≡ Null

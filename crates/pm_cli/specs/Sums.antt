@@ -5,11 +5,11 @@ use Rattle.pm_plan.specs.Tree.{Tree}
 use Rattle.pm_work.specs.Moments.{gauge_in}
 use Rattle.pm_bounds.specs.Bounds.{bounds_of}
 use Rattle.pm_cli.specs.Bounds.{work_of, lo_of, hi_of}
-use Rattle.pm_cli.specs.Pipelines.{pipes_of, driven}
+use Rattle.pm_cli.specs.Pipelines.{pipes_in, driven_sum}
 
 pub record SumsFit (tree : Tree) (gauges : List Gauge) : Type 0 where
   pub work : work_of gauges < 2 ^ 128
   pub lo : lo_of (bounds_of tree 1 (gauge_in gauges)) < 2 ^ 128
   pub hi : hi_of (bounds_of tree 1 (gauge_in gauges)) < 2 ^ 128
-  pub handed : driven (λ gauge. gauge.handed) (pipes_of 1 tree) gauges < 2 ^ 128
-  pub within : driven (λ bound. bound.hi) (pipes_of 1 tree) (bounds_of tree 1 (gauge_in gauges)) < 2 ^ 128
+  pub handed : driven_sum (λ gauge. gauge.handed) (pipes_in tree) gauges < 2 ^ 128
+  pub within : driven_sum (λ bound. bound.hi) (pipes_in tree) (bounds_of tree 1 (gauge_in gauges)) < 2 ^ 128

@@ -3,7 +3,7 @@ use Rattle.std.specs.Prelude.{◌≡◌, ℕ, zero, suc, false, List, [], ◌∷
 use Rattle.pm_values.specs.Table.{Declaration}
 use Rattle.pm_plan.specs.declared.plan.Plan.{Plan}
 use Rattle.pm_plan.specs.Rows.{Db}
-use Rattle.pm_plan.specs.Tree.{Tree, Scan, Project}
+use Rattle.pm_plan.specs.Tree.{Tree, Scan, Over, Filter, Project, Sort, Group, Join, Index}
 use Rattle.pm_plan.specs.Preorder.{nodes_of}
 use Rattle.pm_query.specs.declared.query.Query.{Query}
 
@@ -14,7 +14,7 @@ below (suc n) = below n ++ n ∷ []
 
 -- all columns of the one table, in order, over its scan
 abbrev pub tree_over : Declaration → Tree
-tree_over decl = Project (Scan 0 (record { table = decl.name; alias = decl.name })) (below (length decl.columns))
+tree_over decl = Over (Project (below (length decl.columns))) (Scan 0 (record { table = decl.name; alias = decl.name }))
 
 abbrev pub plan_over : Declaration → Plan
 plan_over decl =
@@ -35,7 +35,7 @@ abbrev pub query_over : ℕ → Declaration → Query
 query_over place decl =
     record {
       tables = record { place = place; decl = decl } ∷ [];
-      sources = record { table = 0; alias = decl.name } ∷ [];
+      sources = record { table = 0; alias = decl.name; left = false } ∷ [];
       conjuncts = [];
       grouped = false;
       keys = [];
@@ -50,5 +50,9 @@ query_over place decl =
 -- a scan, or projections over one: the operators that are run so far
 abbrev pub IsProjectedScan : Tree → Type 0
 IsProjectedScan (Scan table label) = Unit {0}
-IsProjectedScan (Project child columns) = IsProjectedScan child
-IsProjectedScan _ = ⊥
+IsProjectedScan (Over (Project columns) child) = IsProjectedScan child
+IsProjectedScan (Over (Filter cond) child) = ⊥
+IsProjectedScan (Over (Sort keys) child) = ⊥
+IsProjectedScan (Over (Group keys items) child) = ⊥
+IsProjectedScan (Join method on left right) = ⊥
+IsProjectedScan (Index left seek cond) = ⊥

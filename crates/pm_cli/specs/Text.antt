@@ -14,7 +14,7 @@ use Rattle.pm_plan.specs.PlanLines.{plan_lines}
 use Rattle.pm_lines.specs.Rows.{head_line, row_line}
 use Rattle.pm_lines.specs.Progress.{progress_line, end_line}
 use Rattle.pm_cli.specs.Ticks.{last_event}
-use Rattle.pm_cli.specs.Estimates.{shown_at}
+use Rattle.pm_estim.specs.Estimates.{shown_at}
 
 -- the texts of a row's values, by the kinds of its columns
 abbrev pub row_texts : List Kind → Row → List (List ℕ)

@@ -9,8 +9,8 @@ use Rattle.pm_cli.specs.declared.exec.iter.Tick.{Tick}
 use Rattle.pm_cli.specs.declared.exec.iter.Tick.TheVariants as tick
 
 -- the events of the run's plan over its database
-abbrev pub events_of : Ran → List Event
-events_of ran = events ran.db (tree_of ran.plan.nodes) 1
+abbrev pub run_events : Ran → List Event
+run_events ran = events ran.db (tree_of ran.plan.nodes) 1
 
 -- how many they are
 abbrev pub whole_work_of : Ran → ℕ
@@ -45,13 +45,13 @@ row_in (Some e) = e.row
 
 -- the last event of the run was a row of the root
 abbrev pub HasRootRow : Ran → Type 0
-HasRootRow ran = IsOf 1 (last_event (events_of ran) ran.taken)
+HasRootRow ran = IsOf 1 (last_event (run_events ran) ran.taken)
 
 -- the row that the last event handed out
 abbrev pub last_row : Ran → Row
-last_row ran = row_in (last_event (events_of ran) ran.taken)
+last_row ran = row_in (last_event (run_events ran) ran.taken)
 
 -- the event that was taken last is of the node that the answer names
 abbrev pub IsLast : Tick → Ran → Type 0
-IsLast (tick.Row n) ran = IsOf n (last_event (events_of ran) ran.taken)
+IsLast (tick.Row n) ran = IsOf n (last_event (run_events ran) ran.taken)
 IsLast tick.End ran = Unit {0}

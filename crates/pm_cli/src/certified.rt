@@ -4,11 +4,11 @@ ghost use Rattle.pm_plan.specs.Worked.{numbers, numbers_decl};
 ghost use Rattle.pm_cli.specs.Answers.{table_text};
 ghost use Rattle.pm_values.specs.Table.{Relation, IsRelation};
 ghost use Rattle.pm_cli.specs.TablePlan.{plan_over, query_over};
-ghost use Rattle.pm_cli.specs.Certified.{AreCertified};
+ghost use Rattle.pm_cli.specs.Certified.{IsCertifiedRun};
 
 /// The numbers of every run are certified: of the plan of all columns of a table, which has any place in its schema.
 pub fn numbers_are_certified()
-    ensures { (place : ℕ) (table : Relation) → IsRelation table → AreCertified (query_over place table.decl) (plan_over table.decl) (table ∷ []) }
+    ensures { (place : ℕ) (table : Relation) → IsRelation table → IsCertifiedRun (query_over place table.decl) (plan_over table.decl) (table ∷ []) }
 {}
 
 /// The text of three rows, and of none.

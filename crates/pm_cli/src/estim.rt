@@ -2,7 +2,7 @@
 ghost use Rattle.std.specs.Prelude.{◌≡◌, ◌<◌, ◌≤◌, ◌-◌, ◌^◌, length, slice_get, Some, IfOk, option_map};
 ghost use Rattle.pm_plan.specs.Preorder.{tree_of, IsNumbered};
 ghost use Rattle.pm_cli.specs.TablePlan.{IsProjectedScan};
-ghost use Rattle.pm_cli.specs.Pipelines.{pipes_of, driven};
+ghost use Rattle.pm_cli.specs.Pipelines.{pipes_in, driven_sum};
 ghost use Rattle.pm_cli.specs.Estimates.{estimate};
 
 use pm_fraction::root_floor;
@@ -37,7 +37,7 @@ impl Pipes {
     pub fn of(alloc: Global, plan: &Plan) -> Result<Pipes, AllocError>
         requires numbered { IsNumbered plan.now.nodes }
         requires scan { IsProjectedScan (tree_of plan.now.nodes) }
-        ensures { IfOk result (λ pipes. pipes ≡ pipes_of 1 (tree_of plan.now.nodes)) }
+        ensures { IfOk result (λ pipes. pipes ≡ pipes_in (tree_of plan.now.nodes)) }
     {
         let mut pipes = Vec::with_capacity(alloc, plan.nodes.len())?;
         for node in plan.nodes.as_slice() {
@@ -70,8 +70,8 @@ impl Pipes {
 
 /// What a progress line shows: the work and its bounds, dne over the driver nodes, and the lower side of safe.
 pub fn estimate(pipes: &Pipes, gauges: &[Gauge], bounds: &[Bound], whole: &Whole) -> Shown
-    requires handed { driven (λ gauge. gauge.handed) pipes.now gauges.now < 2 ^ 128 }
-    requires within { driven (λ bound. bound.hi) pipes.now bounds.now < 2 ^ 128 }
+    requires handed { driven_sum (λ gauge. gauge.handed) pipes.now gauges.now < 2 ^ 128 }
+    requires within { driven_sum (λ bound. bound.hi) pipes.now bounds.now < 2 ^ 128 }
     ensures { result ≡ estimate pipes.now gauges.now bounds.now whole.now }
 {
     let pipes = pipes.pipes.as_slice();
@@ -90,8 +90,8 @@ pub fn estimate(pipes: &Pipes, gauges: &[Gauge], bounds: &[Bound], whole: &Whole
 }
 
 fn handed_of_drivers(pipes: &[Pipe], gauges: &[Gauge]) -> u128
-    requires { driven (λ gauge. gauge.handed) pipes.now gauges.now < 2 ^ 128 }
-    ensures { result ≡ driven (λ gauge. gauge.handed) pipes.now gauges.now }
+    requires { driven_sum (λ gauge. gauge.handed) pipes.now gauges.now < 2 ^ 128 }
+    ensures { result ≡ driven_sum (λ gauge. gauge.handed) pipes.now gauges.now }
 {
     pipes
         .iter()
@@ -101,8 +101,8 @@ fn handed_of_drivers(pipes: &[Pipe], gauges: &[Gauge]) -> u128
 }
 
 fn hi_of_drivers(pipes: &[Pipe], bounds: &[Bound]) -> u128
-    requires { driven (λ bound. bound.hi) pipes.now bounds.now < 2 ^ 128 }
-    ensures { result ≡ driven (λ bound. bound.hi) pipes.now bounds.now }
+    requires { driven_sum (λ bound. bound.hi) pipes.now bounds.now < 2 ^ 128 }
+    ensures { result ≡ driven_sum (λ bound. bound.hi) pipes.now bounds.now }
 {
     pipes
         .iter()

@@ -6,12 +6,12 @@ ghost use Rattle.pm_io.specs.Sink.{gained, GainsPart};
 ghost use Rattle.pm_plan.specs.Preorder.{tree_of, IsNumbered};
 ghost use Rattle.pm_cli.specs.TablePlan.{IsTablePlan, IsProjectedScan};
 ghost use Rattle.pm_work.specs.Work.{whole_work};
-ghost use Rattle.pm_work.specs.Moments.{counts_at};
+ghost use Rattle.pm_work.specs.Moments.{counts_at, gauge_in};
 ghost use Rattle.pm_lines.specs.Rows.{row_line};
-ghost use Rattle.pm_cli.specs.Pipelines.{pipes_of};
-ghost use Rattle.pm_cli.specs.Estimates.{shown_of, shown_at};
+ghost use Rattle.pm_cli.specs.Pipelines.{pipes_in};
+ghost use Rattle.pm_estim.specs.Estimates.{shown_of, shown_at};
 ghost use Rattle.pm_cli.specs.Sums.{SumsFit};
-ghost use Rattle.pm_cli.specs.Ticks.{HasRootRow, last_row, last_event, IsOf, events_of, whole_work_of};
+ghost use Rattle.pm_cli.specs.Ticks.{HasRootRow, last_row, last_event, IsOf, run_events, whole_work_of};
 ghost use Rattle.pm_cli.specs.Text.{row_texts, row_part, is_due, progress_part, event_lines, head_text, end_text, run_text};
 ghost use Rattle.pm_cli.specs.RunState.{CanTurn, whole_work_in, turn_text};
 
@@ -248,9 +248,9 @@ fn shown(plan: &Plan, gauges: &[Gauge], pipes: &Pipes, bounds: &mut [Bound]) -> 
     requires scan { IsProjectedScan (tree_of plan.now.nodes) }
     requires gauges { length gauges.now ≡ length plan.now.nodes }
     requires room { length bounds.old ≡ length plan.now.nodes }
-    requires pipes { pipes.now ≡ pipes_of 1 (tree_of plan.now.nodes) }
+    requires pipes { pipes.now ≡ pipes_in (tree_of plan.now.nodes) }
     requires sums { SumsFit (tree_of plan.now.nodes) gauges.now }
-    ensures { result ≡ shown_of (tree_of plan.now.nodes) gauges.now }
+    ensures { result ≡ shown_of (tree_of plan.now.nodes) (gauge_in gauges.now) }
 {
     bounds_all(plan, gauges, bounds);
     let whole = whole(gauges, bounds);
@@ -261,7 +261,7 @@ fn shown(plan: &Plan, gauges: &[Gauge], pipes: &Pipes, bounds: &mut [Bound]) -> 
 fn shown_now(plan: &Plan, exec: &Exec<'_>, pipes: &Pipes, bounds: &mut [Bound]) -> Shown
     requires plan { plan.now ≡ exec.now.plan }
     requires room { length bounds.old ≡ length plan.now.nodes }
-    requires pipes { pipes.now ≡ pipes_of 1 (tree_of plan.now.nodes) }
+    requires pipes { pipes.now ≡ pipes_in (tree_of plan.now.nodes) }
     ensures value { result ≡ shown_at exec.now.db (tree_of exec.now.plan.nodes) exec.now.taken }
     ensures work { result.work ≡ exec.now.taken }
     ensures lo { result.lo ≡ whole_work_of exec.now }
@@ -295,7 +295,7 @@ fn write_progress<S: Sink>(
     requires begun { 1 ≤ exec.now.taken }
     requires plan { plan.now ≡ exec.now.plan }
     requires room { length bounds.old ≡ length plan.now.nodes }
-    requires pipes { pipes.now ≡ pipes_of 1 (tree_of plan.now.nodes) }
+    requires pipes { pipes.now ≡ pipes_in (tree_of plan.now.nodes) }
     requires every { IfSome every (λ n. 1 ≤ n) }
     ensures whole { OnOk result (S.written sink.new ≡ gained (S.written sink.old) (progress_part exec.now.plan exec.now.db every exec.now.taken)) }
     ensures part { OnErr result (GainsPart (S.written sink.old) (S.written sink.new) (progress_part exec.now.plan exec.now.db every exec.now.taken)) }
@@ -319,9 +319,9 @@ fn write_event<S: Sink>(
     kinds: &Kinds,
 ) -> Result<(), LineBad>
     requires kinds { kinds.now ≡ exec.now.plan.kinds }
-    requires last { IsOf node (last_event (events_of exec.now) exec.now.taken) }
-    ensures whole { OnOk result (S.written sink.new ≡ gained (S.written sink.old) (row_part kinds.now (last_event (events_of exec.now) exec.now.taken))) }
-    ensures part { OnErr result (GainsPart (S.written sink.old) (S.written sink.new) (row_part kinds.now (last_event (events_of exec.now) exec.now.taken))) }
+    requires last { IsOf node (last_event (run_events exec.now) exec.now.taken) }
+    ensures whole { OnOk result (S.written sink.new ≡ gained (S.written sink.old) (row_part kinds.now (last_event (run_events exec.now) exec.now.taken))) }
+    ensures part { OnErr result (GainsPart (S.written sink.old) (S.written sink.new) (row_part kinds.now (last_event (run_events exec.now) exec.now.taken))) }
     ensures failed { result ≡ Err LineBad.Write → Rose (S.faults sink.old) (S.faults sink.new) }
     ensures faults { S.faults sink.old ≤ S.faults sink.new }
 {

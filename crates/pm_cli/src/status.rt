@@ -4,7 +4,7 @@ ghost use Rattle.std.specs.Prelude.{◌≡◌};
 ghost use Rattle.pm_cli.specs.Status.{code_of, status_of};
 
 use pm_inputs::{Refusal, Role};
-use pm_lines::Word;
+use pm_refusals::Word;
 use pm_tables::DataBad;
 
 /// How a command ended.

@@ -4,7 +4,7 @@ use Rattle.std.specs.Prelude.{IfSome, IfErr, IsErrOf}
 use Rattle.std.proofs.lemmas.Str.{utf8_valid_len-IsValidUpTo}
 use Rattle.pm_values.specs.Table.{Declaration, Relation}
 use Rattle.pm_io.specs.Files.{Held}
-use Rattle.pm_lines.specs.declared.refusal.Word.TheVariants as word
+use Rattle.pm_refusals.specs.declared.word.Word.TheVariants as word
 use Rattle.pm_lexer.specs.declared.token.Token.{Token}
 use Rattle.pm_lexer.specs.Tokens.{tokens_of}
 use Rattle.pm_syntax.specs.declared.tree.Source.{Source}

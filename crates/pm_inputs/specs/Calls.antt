@@ -2,7 +2,7 @@
 use Rattle.std.specs.Prelude.{◌≡◌, ◌≢◌, ◌⊎◌, ◌<◌, ◌≤◌, ◌^◌, ℕ, List, [], ◌∷◌, length, codes, slice_get, Option, None, Some, Result, Ok, Err, IsSomeAnd}
 use Rattle.pm_values.specs.Table.{Declaration, Relation}
 use Rattle.pm_io.specs.Files.{Held}
-use Rattle.pm_lines.specs.declared.refusal.Word.TheVariants as word
+use Rattle.pm_refusals.specs.declared.word.Word.TheVariants as word
 use Rattle.pm_syntax.specs.declared.tree.Select.{Select}
 use Rattle.pm_tables.specs.declared.fault.DataBad.TheVariants as bad
 use Rattle.pm_tables.specs.Loading.{Answer, Rows, Refused, CallsFor}

@@ -2,7 +2,7 @@
 use Rattle.std.specs.Prelude.{◌≡◌, ◌⊎◌, ℕ, List, Option, None, Some, Result, Ok, Err, IsUtf8}
 use Rattle.std.specs.Str.{IsValidUpTo}
 use Rattle.pm_values.specs.Table.{Declaration}
-use Rattle.pm_lines.specs.declared.refusal.Word.TheVariants as word
+use Rattle.pm_refusals.specs.declared.word.Word.TheVariants as word
 use Rattle.pm_lexer.specs.declared.token.Token.{Token}
 use Rattle.pm_lexer.specs.declared.fault.LexBad.{LexBad}
 use Rattle.pm_lexer.specs.declared.fault.LexBad.TheVariants as lexing
@@ -47,6 +47,9 @@ schema_fault (schema.DoubleTable p) = Some (record { word = word.DoubleTable; at
 schema_fault (schema.DoubleColumn p) = Some (record { word = word.DoubleColumn; at = p })
 schema_fault (schema.KeyColumn p) = Some (record { word = word.KeyColumn; at = p })
 schema_fault (schema.NullKey p) = Some (record { word = word.NullKey; at = p })
+schema_fault (schema.RefTable p) = Some (record { word = word.RefTable; at = p })
+schema_fault (schema.RefColumn p) = Some (record { word = word.RefColumn; at = p })
+schema_fault (schema.RefShape p) = Some (record { word = word.RefShape; at = p })
 schema_fault schema.Memory = None
 
 -- an answer of a reader, with its refusal as it is written

@@ -20,7 +20,7 @@ use crate::chosen::chosen;
 use crate::refusal::{Refusal, Role};
 use crate::texts::{Fault, TextBad, schema_of, select_of};
 use pm_io::{Files, ReadOut, read_whole};
-use pm_lines::Word;
+use pm_refusals::Word;
 use pm_schema::Schema;
 use pm_syntax::Select;
 use pm_tables::DataBad;

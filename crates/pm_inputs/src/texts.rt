@@ -5,7 +5,7 @@ ghost use Rattle.pm_inputs.specs.declared.texts.TextBad.TheVariants as bad;
 ghost use Rattle.pm_inputs.specs.Texts.{Gives, IsBad, TextGives, SchemaText, SelectText, lexing_fault, syntax_fault, schema_fault};
 
 use pm_lexer::{LexBad, Tokens, lex};
-use pm_lines::Word;
+use pm_refusals::Word;
 use pm_schema::{Schema, SchemaBad, read_schema};
 use pm_syntax::{Select, SynBad, parse};
 use pm_values::Txt;
@@ -79,6 +79,9 @@ impl From<SchemaBad> for TextBad {
             SchemaBad::DoubleColumn(at) => faulty(Word::DoubleColumn, at),
             SchemaBad::KeyColumn(at) => faulty(Word::KeyColumn, at),
             SchemaBad::NullKey(at) => faulty(Word::NullKey, at),
+            SchemaBad::RefTable(at) => faulty(Word::RefTable, at),
+            SchemaBad::RefColumn(at) => faulty(Word::RefColumn, at),
+            SchemaBad::RefShape(at) => faulty(Word::RefShape, at),
             SchemaBad::Memory => TextBad::Memory,
         }
     }

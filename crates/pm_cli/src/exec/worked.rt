@@ -4,7 +4,7 @@ ghost use Rattle.pm_values.specs.declared.value.Value.TheVariants.{Int};
 ghost use Rattle.pm_cli.specs.TablePlan.{tree_over};
 ghost use Rattle.pm_work.specs.Moments.{gauges_at};
 ghost use Rattle.pm_plan.specs.Worked.{numbers, numbers_decl};
-ghost use Rattle.pm_cli.specs.Ticks.{tick_at, events_of, whole_work_of, HasRootRow, last_row};
+ghost use Rattle.pm_cli.specs.Ticks.{tick_at, run_events, whole_work_of, HasRootRow, last_row};
 ghost use Rattle.pm_cli.specs.NumbersRun.{numbers_run};
 
 use crate::exec::Tick;
@@ -13,7 +13,7 @@ use crate::exec::Tick;
 /// second and the last event, and the gauges while the second row is read and not yet projected.
 pub fn three_rows_run()
     ensures work { whole_work_of (numbers_run 0) ≡ 6 }
-    ensures ticks { map (tick_at (events_of (numbers_run 0))) (0 ∷ 1 ∷ 2 ∷ 5 ∷ 6 ∷ 7 ∷ [])
+    ensures ticks { map (tick_at (run_events (numbers_run 0))) (0 ∷ 1 ∷ 2 ∷ 5 ∷ 6 ∷ 7 ∷ [])
         ≡ Tick.Row 2 ∷ Tick.Row 1 ∷ Tick.Row 2 ∷ Tick.Row 1 ∷ Tick.End ∷ Tick.End ∷ [] }
     ensures root { HasRootRow (numbers_run 2) }
     ensures first { last_row (numbers_run 2) ≡ Int (pos 7) ∷ [] }

@@ -1,8 +1,9 @@
 use Rattle.std.proofs.Common.{◌≡◌, length, subst, sym, ap, ◌∙◌}
 use Rattle.pm_plan.specs.Preorder.{tree_of, IsNumbered}
+use Rattle.pm_work.specs.Moments.{gauge_in}
 use Rattle.pm_cli.specs.TablePlan.{IsProjectedScan}
 use Rattle.pm_cli.specs.Sums.{SumsFit}
-use Rattle.pm_cli.specs.Estimates.{shown_of, shown_at}
+use Rattle.pm_estim.specs.Estimates.{shown_of, shown_at}
 use Rattle.pm_cli.proofs.UnderPlan.{IsMoment, at_moment}
 use Rattle.pm_cli.proofs.run.shown_now.Goals as goal
 
@@ -29,8 +30,8 @@ returns c =
     let m : IsMoment run.plan run.db run.taken = at_moment run.plan run.db run.taken g.fits g.declared g.within in
     let value : c.shown.result ≡ shown_at run.db (tree_of run.plan.nodes) run.taken =
     c.shown.ensures
-    ∙ ap (λ p. shown_of (tree_of p.nodes) c.gauges.result.now) c.requires.plan
-    ∙ ap (shown_of (tree_of run.plan.nodes)) g.gauges in
+    ∙ ap (λ p. shown_of (tree_of p.nodes) (gauge_in c.gauges.result.now)) c.requires.plan
+    ∙ ap (λ gauges. shown_of (tree_of run.plan.nodes) (gauge_in gauges)) g.gauges in
     record {
       value = value;
       work = ap (λ s. s.work) value ∙ m.work;

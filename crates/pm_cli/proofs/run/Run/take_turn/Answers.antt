@@ -8,7 +8,7 @@ use Rattle.pm_lines.specs.Progress.{end_line}
 use Rattle.pm_plan.specs.declared.gauge.Gauge.{Gauge}
 use Rattle.pm_cli.specs.declared.exec.iter.Tick.{Tick}
 use Rattle.pm_cli.specs.Ran.{Ran}
-use Rattle.pm_cli.specs.Ticks.{events_of, last_event, taken_after, whole_work_of}
+use Rattle.pm_cli.specs.Ticks.{run_events, last_event, taken_after, whole_work_of}
 use Rattle.pm_cli.specs.Text.{row_part, progress_part, event_lines, end_text}
 use Rattle.pm_cli.specs.IsRun.{run_of}
 use Rattle.pm_cli.specs.RunState.{turn_text}
@@ -54,7 +54,7 @@ returns-in_err-write_event-in-Ok-Row-clause-part g c =
     let new = written c.write_event.new.sink in
     let e = c.step.new.self in
     let is : IsAfter (run_of a) e = c.in-Ok-Row.ensures.taken ∙ ap (ran_after a.exec) c.in-Ok-Row.field-0-is in
-    let row = row_part a.plan.now.kinds (last_event (events_of e) e.taken) in
+    let row = row_part a.plan.now.kinds (last_event (run_events e) e.taken) in
     let progress = progress_part e.plan e.db a.every e.taken in
     let text : row ++ progress ≡ turn_text c.args.self.now =
     parts (run_of a) e a.plan.now is c.self.invariant.plan
@@ -72,7 +72,7 @@ returns-in_err-write_progress-in-Ok-Row-clause-part g c =
     let new = written c.write_progress.new.sink in
     let e = c.step.new.self in
     let is : IsAfter (run_of a) e = c.in-Ok-Row.ensures.taken ∙ ap (ran_after a.exec) c.in-Ok-Row.field-0-is in
-    let row = row_part a.plan.now.kinds (last_event (events_of e) e.taken) in
+    let row = row_part a.plan.now.kinds (last_event (run_events e) e.taken) in
     let progress = progress_part e.plan e.db a.every e.taken in
     let text : row ++ progress ≡ turn_text c.args.self.now =
     parts (run_of a) e a.plan.now is c.self.invariant.plan
@@ -103,7 +103,7 @@ returns-in_ok-write_progress-in-Ok-Row-clause-went g c = λ _.
     let old = written c.args.sink.now in
     let e = c.step.new.self in
     let is : IsAfter (run_of a) e = c.in-Ok-Row.ensures.taken ∙ ap (ran_after a.exec) c.in-Ok-Row.field-0-is in
-    let row = row_part a.plan.now.kinds (last_event (events_of e) e.taken) in
+    let row = row_part a.plan.now.kinds (last_event (run_events e) e.taken) in
     let progress = progress_part e.plan e.db a.every e.taken in
     c.in_ok-write_progress-in-Ok-Row.ensures.whole
     ∙ ap (λ m. gained m progress) c.in_ok-write_event-in-Ok-Row.ensures.whole
