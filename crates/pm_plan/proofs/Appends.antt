@@ -8,7 +8,7 @@ use Rattle.std.proofs.lemmas.List.Elements.{filter-append}
 use Rattle.std.proofs.lemmas.List.MinMax.{ranks_by, IsStrictWeakOrder-flip}
 use Rattle.std.specs.Cmp.{IsStrictWeakOrder}
 use Rattle.std.specs.List.{list_any}
-use Rattle.std.specs.Prelude.{◌+ℤ◌, pos}
+use Rattle.std.specs.Prelude.{pos}
 use Rattle.pm_values.specs.declared.value.Value.{Value}
 use Rattle.pm_values.specs.declared.value.Value.TheVariants as value
 use Rattle.pm_values.specs.Row.{Row, cell, pick}
@@ -18,7 +18,6 @@ use Rattle.pm_values.specs.Keys.{multiplicity as key_multiplicity, greatest_mult
 use Rattle.pm_values.proofs.ValueOrder.{value_cmp_total}
 use Rattle.pm_values.proofs.Keys.{same_key_equal}
 use Rattle.pm_plan.specs.declared.plan.Pair.{Pair}
-use Rattle.pm_plan.specs.declared.plan.Aggregate.{Aggregate}
 use Rattle.pm_plan.specs.declared.plan.Aggregate.TheVariants as aggregate
 use Rattle.pm_plan.specs.Tree.{Method}
 use Rattle.pm_plan.specs.Joins.{left_columns, right_columns, keys_of, matches, joined_rows, rows_for, joined_by, join, multiplicity, worst}
