@@ -8,6 +8,7 @@ pub mod Ends
 pub mod Lists
 pub mod Referring
 pub mod Sorts
+pub mod Appends
 pub mod Conditions
 pub mod Rules
 pub mod PlanLines

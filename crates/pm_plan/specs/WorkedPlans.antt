@@ -1,5 +1,5 @@
 -- plans over customers and their orders, for worked examples
-use Rattle.std.specs.Prelude.{ℕ, zero, suc, Bool, true, false, List, [], ◌∷◌, None, Some, codes}
+use Rattle.std.specs.Prelude.{ℕ, zero, suc, Bool, true, false, List, [], ◌∷◌, None, codes}
 use Rattle.pm_values.specs.declared.value.Value.TheVariants.{Text}
 use Rattle.pm_values.specs.declared.value.Kind.{Kind}
 use Rattle.pm_values.specs.declared.value.Kind.TheVariants as kind
@@ -12,7 +12,7 @@ use Rattle.pm_plan.specs.declared.plan.Aggregate.{Aggregate}
 use Rattle.pm_plan.specs.declared.plan.Pair.{Pair}
 use Rattle.pm_plan.specs.declared.plan.Plan.{Plan}
 use Rattle.pm_plan.specs.declared.plan.Unique.{Unique}
-use Rattle.pm_plan.specs.Tree.{Filter, Project, Sort, Group, Method, Hash, Merge, Seek, Tree, Scan, Over, Join, Index}
+use Rattle.pm_plan.specs.Tree.{Filter, Project, Group, Method, Hash, Merge, Seek, Tree, Scan, Over, Join, Index}
 use Rattle.pm_plan.specs.Preorder.{nodes_of}
 use Rattle.pm_plan.specs.Worked.{label, pair, flags, on, customer_decl, order_decl, ordered_customer_decl, ordered_order_decl, referring_order_decl, integer_column}
 

@@ -1,4 +1,4 @@
-use Rattle.std.proofs.Common.{◌≡◌, length, refl, ap, sym, ◌∙◌, arith, codes}
+use Rattle.std.proofs.Common.{length, refl, ap, sym, ◌∙◌, arith, codes}
 use Rattle.std.proofs.lemmas.Bool.{false≢true}
 use Rattle.pm_values.specs.declared.value.Value.TheVariants.{Text}
 use Rattle.pm_values.specs.declared.condition.Comparison.TheVariants as comparison
