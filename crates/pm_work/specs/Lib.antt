@@ -2,6 +2,7 @@ pub mod Formulas
 pub mod Events
 pub mod Work
 pub mod Moments
+pub mod Changes
 pub mod Orderly
 pub mod Facts
 pub mod First
