@@ -453,8 +453,7 @@ module _ (condition : Option Cond) (n s : ℕ) (apart : n + 1 < s) (pairs : List
       [ true ↦ paired_pairs x.row (matches pairs x.row all) | false ↦ tt ] in
       let rest : Paired s (n + 1) (last_at (n + 1) (next_row (n + 1) l x) (cond (eqb x.node (n + 1)) (looked x.row) [])) (after (n + 1) looked lefts) (after s keeping (after (n + 1) seeks lefts)) =
       paired_events (last_at (n + 1) (next_row (n + 1) l x) (cond (eqb x.node (n + 1)) (looked x.row) [])) lefts w.2 in
-      let split : after s keeping (now ++ after (n + 1) seeks lefts) ≡ after s keeping now ++ after s keeping (after (n + 1) seeks lefts) = after-append s keeping now (after (n + 1) seeks lefts) in
-      (
+      let split : after s keeping (now ++ after (n + 1) seeks lefts) ≡ after s keeping now ++ after s keeping (after (n + 1) seeks lefts) = after-append s keeping now (after (n + 1) seeks lefts) in (
         refl,
         (λ o. refl),
         (λ z. absurd (omega (arith, z, w.1))),

@@ -18,3 +18,4 @@ pub mod Cuts
 pub mod Orders
 pub mod Gauges
 pub mod FirstBounds
+pub mod Changes
