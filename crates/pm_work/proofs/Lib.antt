@@ -19,3 +19,4 @@ pub mod Orders
 pub mod Gauges
 pub mod FirstBounds
 pub mod Changes
+pub mod Narrow

@@ -2,6 +2,7 @@
 use Rattle.std.specs.Prelude.{true, false, [], ◌∷◌, None, codes}
 use Rattle.pm_values.specs.declared.condition.Comparison.TheVariants as comparison
 use Rattle.pm_plan.specs.declared.plan.Aggregate.TheVariants as aggregate
+use Rattle.pm_plan.specs.declared.plan.Unique.{Unique}
 use Rattle.pm_plan.specs.Tree.{Filter, Project, Sort, Group, Hash, Merge, Tree, Scan, Over, Join, Index, Seek}
 use Rattle.pm_plan.specs.Worked.{label, against, pair, flags, on}
 
@@ -69,12 +70,14 @@ summed =
 
 -- ---- a small table and one with a KEY
 
--- SELECT b.id FROM one a JOIN big b ON a.x = b.id
-abbrev pub looked_up : Tree
-looked_up =
+-- SELECT b.id FROM one a JOIN big b ON a.x = b.id, with these flags
+abbrev pub looked_up_with : Unique → Tree
+looked_up_with unique =
     Over (Project (1 ∷ []))
-    (Index (Scan 0 (label (codes "one") (codes "a")))
-    (record { table = 1; label = label (codes "big") (codes "b"); on = on (pair 0 0) (flags false true) }) None)
+    (Index (Scan 0 (label (codes "one") (codes "a"))) (record { table = 1; label = label (codes "big") (codes "b"); on = on (pair 0 0) unique }) None)
+
+abbrev pub looked_up : Tree
+looked_up = looked_up_with (flags false true)
 
 -- ---- two tables without a KEY
 
