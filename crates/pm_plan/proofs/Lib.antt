@@ -1,4 +1,10 @@
 pub mod Walks
 pub mod Preorders
+pub mod Inversion
+pub mod Subplans
+pub mod Tests
+pub mod Agreement
+pub mod Ends
 pub mod Lists
 pub mod Conditions
+pub mod PlanLines

@@ -1,5 +1,6 @@
 -- facts, sums and lists of the nodes of a tree
-use Rattle.std.proofs.Common.{◌≡◌, ◌≤◌, ℕ, ◌+◌, ◌-◌, List, [], ◌∷◌, ◌++◌, length, refl, ap, sym, subst, ◌∙◌, arith, append_assoc, length-append}
+use Rattle.std.proofs.Common.{◌≡◌, ◌≤◌, ℕ, ◌+◌, ◌-◌, List, [], ◌∷◌, ◌++◌, length, refl, ap, sym, subst, ◌∙◌, arith, append_assoc, length-append, drop, suc, add-one, drop-cons}
+use Rattle.std.proofs.lemmas.Option.{slice_get_within, get_or_from_slice_get}
 use Rattle.std.specs.Prelude.{Some, slice_get}
 use Rattle.pm_plan.specs.Tree.{Tree, Scan, Over, Join, Index, Seek, size, right_number, Each, EachAt, sum_in, sum_at, list_at}
 
@@ -135,3 +136,37 @@ AreItems-list_at {A} f s (Index left seek cond) n before rest e =
       subst (λ items. AreItems f s items left (n + 1)) split
           (AreItems-list_at f s left (n + 1) (before ++ x ∷ []) (y ∷ rest) (omega (arith, e, length-append before (x ∷ [])))),
     )
+
+-- and the other way round: from where a tree's items stand on, the list begins with them
+drop-next : {A : Type 0} (items : List A) (k : ℕ) (x : A) → slice_get items k ≡ Some x → drop k items ≡ x ∷ drop (k + 1) items
+drop-next items k x e = rw add-one (drop-cons items k x (slice_get_within items k x e) ∙ ap (λ y. y ∷ drop (suc k) items) (get_or_from_slice_get items k x x e))
+
+pub drop-list_at : {A : Type 0} (f : Tree → ℕ → A) (s : Tree → Seek → ℕ → A) (items : List A) (t : Tree) (n k : ℕ) → n ≡ k + 1 → AreItems f s items t n
+    → drop k items ≡ list_at f s t n ++ drop (k + size t) items
+drop-list_at f s items (Scan table label) n k e h =
+    drop-next items k _ (subst (λ m. slice_get items m ≡ Some (f (Scan table label) n)) (omega (arith, e)) h)
+drop-list_at f s items (Over op child) n k e h =
+    let far : k + 1 + size child ≡ k + (1 + size child) = omega arith in
+    drop-next items k _ (subst (λ m. slice_get items m ≡ Some (f (Over op child) n)) (omega (arith, e)) h.0)
+    ∙ ap (λ rest. f (Over op child) n ∷ rest)
+    (drop-list_at f s items child (n + 1) (k + 1) (omega (arith, e)) h.1 ∙ ap (λ m. list_at f s child (n + 1) ++ drop m items) far)
+drop-list_at {A} f s items (Join method on left right) n k e h =
+    let ls : List A = list_at f s left (n + 1) in
+    let rs : List A = list_at f s right (right_number n left) in
+    let far : k + 1 + size left + size right ≡ k + (1 + (size left + size right)) = omega arith in
+    drop-next items k _ (subst (λ m. slice_get items m ≡ Some (f (Join method on left right) n)) (omega (arith, e)) h.0)
+    ∙ ap (λ rest. f (Join method on left right) n ∷ rest)
+    (drop-list_at f s items left (n + 1) (k + 1) (omega (arith, e)) h.1
+    ∙ ap (λ rest. ls ++ rest)
+    (drop-list_at f s items right (right_number n left) (k + 1 + size left) (omega (arith, e)) h.2 ∙ ap (λ m. rs ++ drop m items) far)
+    ∙ sym (append_assoc ls rs (drop (k + (1 + (size left + size right))) items)))
+drop-list_at {A} f s items (Index left seek cond) n k e h =
+    let ls : List A = list_at f s left (n + 1) in
+    let y : A = s left seek n in
+    let far : k + 1 + size left + 1 ≡ k + (2 + size left) = omega arith in
+    drop-next items k _ (subst (λ m. slice_get items m ≡ Some (f (Index left seek cond) n)) (omega (arith, e)) h.0)
+    ∙ ap (λ rest. f (Index left seek cond) n ∷ rest)
+    (drop-list_at f s items left (n + 1) (k + 1) (omega (arith, e)) h.2
+    ∙ ap (λ rest. ls ++ rest)
+    (drop-next items (k + 1 + size left) y (subst (λ m. slice_get items m ≡ Some y) (omega (arith, e)) h.1) ∙ ap (λ m. y ∷ drop m items) far)
+    ∙ sym (append_assoc ls (y ∷ []) (drop (k + (2 + size left)) items)))

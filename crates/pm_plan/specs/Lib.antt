@@ -10,5 +10,7 @@ pub mod Unique
 pub mod References
 pub mod Flags
 pub mod Valid
+pub mod Standing
+pub mod Fitting
 pub mod PlanLines
 pub mod Worked

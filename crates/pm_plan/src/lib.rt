@@ -3,11 +3,19 @@
 //! `check_plan` says whether a plan keeps the rules for the tables that are declared.
 #![tactic(auto)]
 
-pub mod gauge;
-pub mod laws;
-pub mod plan;
+mod fits;
+mod gauge;
+mod kinds;
+mod laws;
+mod numbering;
+mod plan;
+mod root;
+mod shape;
+mod text;
+mod uniqueness;
 
 pub use gauge::{Bound, Gauge, Shown, Whole};
 pub use plan::{
     Aggregate, Aggregates, Label, Node, Nodes, Pair, Pairs, Plan, SortKey, SortKeys, Unique,
 };
+pub use text::{node_text, plan_text};
