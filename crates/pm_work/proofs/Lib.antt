@@ -20,3 +20,6 @@ pub mod Gauges
 pub mod FirstBounds
 pub mod Changes
 pub mod Narrow
+pub mod WellFormedRows
+pub mod Summable
+pub mod Adding

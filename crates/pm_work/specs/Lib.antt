@@ -8,3 +8,4 @@ pub mod Facts
 pub mod First
 pub mod Fits
 pub mod Worked
+pub mod Evaluation
