@@ -1,17 +1,17 @@
 -- where a tree ends in a list of nodes, by the node at its root
-use Rattle.std.proofs.Common.{◌≡◌, ◌↔◌, ℕ, ◌+◌, ◌-◌, List, ◌∷◌, ◌++◌, length, drop, Option, Some, None, refl, sym, ap, ◌∙◌, subst, arith}
+use Rattle.std.proofs.Common.{◌≡◌, ◌↔◌, ℕ, ◌+◌, List, ◌++◌, length, Option, Some, None, refl, sym, ap, ◌∙◌, subst, arith}
 use Rattle.std.proofs.lemmas.List.{append-nil, drop_all}
 use Rattle.std.specs.Prelude.{IfSome}
 use Rattle.pm_values.specs.declared.condition.Cond.{Cond}
 use Rattle.pm_plan.specs.declared.plan.Node.{Node}
 use Rattle.pm_plan.specs.declared.plan.Node.TheVariants as node
 use Rattle.pm_plan.specs.declared.plan.Label.{Label}
-use Rattle.pm_plan.specs.Tree.{Unary, Method, On, Seek, Tree, Scan, Over, Join, Index, size, right_number}
+use Rattle.pm_plan.specs.Tree.{Unary, Method, On, Tree, Scan, Over, Join, Index, size}
 use Rattle.pm_plan.specs.Preorder.{Rooted, unary_node, join_node, seek_node, node_of, nodes_of, node_at, tree_of, IsNumbered, IsTreeAt}
 use Rattle.pm_plan.specs.Standing.{IsSeekAt, IsEnd}
 use Rattle.pm_plan.proofs.Walks.{drop-list_at}
 use Rattle.pm_plan.proofs.Preorders.{tree_of-nodes_of, length-nodes_of, IsTreeAt-tree_of}
-use Rattle.pm_plan.proofs.Inversion.{OverOne, OverTwo, OverSeek, over_at, join_at, index_at, scan_at, rooted_same}
+use Rattle.pm_plan.proofs.Inversion.{over_at, join_at, index_at, scan_at, rooted_same}
 
 pub no_tree : (nodes : List Node) (n : ℕ) → ((t : Tree) → IsTreeAt nodes t n → ⊥) → IsEnd nodes n None
 no_tree nodes n none = record { found = λ t h. absurd (none t h); stands = tt }

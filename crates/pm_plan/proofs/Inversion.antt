@@ -1,18 +1,15 @@
 -- what stands in a list of nodes, by the node at its root
-use Rattle.std.proofs.Common.{◌≡◌, ◌⊎◌, ℕ, ◌+◌, List, ◌++◌, max, refl, sym, ap, subst, ◌∙◌, inl, inr, arith}
+use Rattle.std.proofs.Common.{◌≡◌, ℕ, ◌+◌, List, max, refl, sym, ap, subst, ◌∙◌, arith}
 use Rattle.std.specs.Prelude.{Option, None, Some}
 use Rattle.pm_values.specs.declared.condition.Cond.{Cond}
-use Rattle.pm_values.specs.Table.{Declaration}
 use Rattle.pm_plan.specs.declared.plan.Label.{Label}
 use Rattle.pm_plan.specs.declared.plan.Node.{Node}
 use Rattle.pm_plan.specs.declared.plan.Node.TheVariants as node
-use Rattle.pm_plan.specs.declared.root.Unary.{Unary as UnaryRead}
 use Rattle.pm_plan.specs.declared.root.Root.{Root}
 use Rattle.pm_plan.specs.declared.root.Root.TheVariants as root
 use Rattle.pm_plan.specs.Tree.{Unary, Filter, Project, Sort, Group, Method, Hash, Merge, On, Seek, Tree, Scan, Over, Join, Index, right_number}
 use Rattle.pm_plan.specs.Preorder.{Subplan, Rooted, Sought, unary_node, join_node, seek_node, node_of, node_at, IsTreeAt}
-use Rattle.pm_plan.specs.Kinds.{kinds_of}
-use Rattle.pm_plan.specs.Standing.{unary_of, method_of, root_node, Stands, subplan_kinds}
+use Rattle.pm_plan.specs.Standing.{unary_of, method_of, root_node, Stands}
 use Rattle.pm_plan.proofs.Walks.{EachAt-root}
 
 -- a node by the number of its children
@@ -155,3 +152,6 @@ scan_at nodes p n table label e h = begins_at nodes p n (node.Scan table label) 
 -- what a look-up found, as its variant
 pub found_is : {o : Option Node} {r s : Root} → Some (root_node r) ≡ o → r ≡ s → o ≡ Some (root_node s)
 found_is p q = sym p ∙ ap (λ r. Some (root_node r)) q
+
+pub sought_same : {s t : Seek} → Sought s ≡ Sought t → s ≡ t
+sought_same e = cc

@@ -6,5 +6,7 @@ pub mod Tests
 pub mod Agreement
 pub mod Ends
 pub mod Lists
+pub mod Referring
 pub mod Conditions
+pub mod Rules
 pub mod PlanLines

@@ -1,6 +1,6 @@
 -- the columns of what stands in a list of nodes
 use Rattle.std.proofs.Common.{◌≡◌, ℕ, ◌+◌, List, ◌++◌, max, ap}
-use Rattle.std.specs.Prelude.{Option, Some}
+use Rattle.std.specs.Prelude.{Option}
 use Rattle.pm_values.specs.declared.condition.Cond.{Cond}
 use Rattle.pm_values.specs.Table.{Declaration}
 use Rattle.pm_plan.specs.declared.plan.Label.{Label}

@@ -1,5 +1,5 @@
 -- groups of rows and their aggregates
-use Rattle.std.specs.Prelude.{ℕ, Bool, not, if◌then◌else◌, ◌+ℤ◌, pos, List, [], ◌∷◌, ◌++◌, length, map, filter}
+use Rattle.std.specs.Prelude.{ℕ, not, if◌then◌else◌, ◌+ℤ◌, pos, List, [], ◌∷◌, ◌++◌, length, map, filter}
 use Rattle.pm_values.specs.declared.value.Value.{Value}
 use Rattle.pm_values.specs.declared.value.Value.TheVariants as value
 use Rattle.pm_values.specs.Row.{Row, cell, pick}

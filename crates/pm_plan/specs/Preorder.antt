@@ -1,5 +1,5 @@
 -- a tree as the list of its nodes in preorder, and the tree that such a list stands for
-use Rattle.std.specs.Prelude.{◌≡◌, ℕ, ◌+◌, ◌-◌, List, [], ◌∷◌, ◌++◌, Option, Some, slice_get}
+use Rattle.std.specs.Prelude.{◌≡◌, ℕ, ◌+◌, ◌-◌, List, [], ◌∷◌, Option, Some, slice_get}
 use Rattle.pm_values.specs.declared.condition.Cond.{Cond}
 use Rattle.pm_plan.specs.declared.plan.Node.{Node}
 use Rattle.pm_plan.specs.declared.plan.Node.TheVariants as node

@@ -1,5 +1,5 @@
 -- when the declarations say that each left row of a join has a match: the join goes along a reference to the right side's table
-use Rattle.std.specs.Prelude.{ℕ, ◌+◌, ◌-◌, Bool, true, false, not, ◌&&◌, ◌||◌, nat_eq, nat_le, if◌then◌else◌, List, [], ◌∷◌, ◌++◌, map, slice_get, Option, None, Some}
+use Rattle.std.specs.Prelude.{ℕ, ◌+◌, ◌-◌, Bool, false, not, ◌&&◌, ◌||◌, nat_eq, nat_le, if◌then◌else◌, List, [], ◌∷◌, ◌++◌, map, slice_get, Option, None, Some}
 use Rattle.std.specs.List.{list_any, list_all}
 use Rattle.std.specs.Str.{bytes_eq}
 use Rattle.pm_values.specs.declared.table.ColumnDecl.{ColumnDecl}
@@ -7,7 +7,7 @@ use Rattle.pm_values.specs.declared.table.Reference.{Reference}
 use Rattle.pm_values.specs.Table.{Declaration}
 use Rattle.pm_plan.specs.declared.plan.Pair.{Pair}
 use Rattle.pm_plan.specs.Kinds.{columns_of, width}
-use Rattle.pm_plan.specs.Tree.{Method, Tree, Scan, Over, Join, Index, keeps_columns, pads}
+use Rattle.pm_plan.specs.Tree.{Tree, Scan, Over, Join, Index, keeps_columns, pads}
 
 -- an entry of FROM in the rows of a tree: its table, its first column, and whether a left join may give NULLs for it
 pub record Entry : Type 0 where

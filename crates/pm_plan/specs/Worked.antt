@@ -4,7 +4,6 @@ use Rattle.pm_values.specs.declared.value.Value.{Value}
 use Rattle.pm_values.specs.declared.value.Value.TheVariants.{Null, Int, Text}
 use Rattle.pm_values.specs.declared.value.Kind.TheVariants as kind
 use Rattle.pm_values.specs.declared.table.ColumnDecl.{ColumnDecl}
-use Rattle.pm_values.specs.declared.table.Reference.{Reference}
 use Rattle.pm_values.specs.declared.condition.Comparison.{Comparison}
 use Rattle.pm_values.specs.declared.condition.Operand.TheVariants as operand
 use Rattle.pm_values.specs.declared.condition.Cond.{Cond}

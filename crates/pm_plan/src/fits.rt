@@ -1,5 +1,5 @@
 //! Whether conditions, aggregates and pairs fit the kinds of the columns that they read.
-ghost use Rattle.std.specs.Prelude.{◌≡◌, ◌+◌, ◌-◌, ◌<◌, ◌^◌, ◌↔◌, ◌&&◌, ℕ, IsTrue, length};
+ghost use Rattle.std.specs.Prelude.{◌≡◌, ◌+◌, ◌-◌, ◌<◌, ◌^◌, ◌↔◌, ◌&&◌, ℕ, IsTrue, All, length};
 ghost use Rattle.std.specs.List.{list_all};
 ghost use Rattle.pm_plan.specs.Preorder.{Subplan};
 ghost use Rattle.pm_plan.specs.Valid.{PairsFit};
@@ -164,7 +164,8 @@ pub fn item_fits(nodes: &[Node], decls: &TableDecls, n: usize, item: Aggregate) 
 
 // Whether the pair compares a column of the left side with one of the right side, of one kind.
 fn pair_fits(nodes: &[Node], decls: &TableDecls, left: usize, right: usize, pair: Pair) -> bool
-    ensures { (p q : Subplan) → Stands nodes.now p left → Stands nodes.now q right → result ≡ pair_fits (subplan_kinds decls.now p) (subplan_kinds decls.now q) pair }
+    ensures fit { (p q : Subplan) → Stands nodes.now p left → Stands nodes.now q right → result ≡ pair_fits (subplan_kinds decls.now p) (subplan_kinds decls.now q) pair }
+    ensures in_range { pair.left < 2 ^ 32 }
 {
     let Some(l) = kind_at(nodes, decls, left, pair.left) else {
         return false;
@@ -183,7 +184,8 @@ pub fn pairs_fit(
     right: usize,
     pairs: &[Pair],
 ) -> bool
-    ensures { (p q : Subplan) → Stands nodes.now p left → Stands nodes.now q right → (IsTrue result ↔ PairsFit (subplan_kinds decls.now p) (subplan_kinds decls.now q) pairs.now) }
+    ensures fit { (p q : Subplan) → Stands nodes.now p left → Stands nodes.now q right → (IsTrue result ↔ PairsFit (subplan_kinds decls.now p) (subplan_kinds decls.now q) pairs.now) }
+    ensures in_range { IsTrue result → All (λ pair. pair.left < 2 ^ 32) pairs.now }
 {
     if pairs.is_empty() || pairs.len() >= TOO_MANY {
         return false;

@@ -9,10 +9,12 @@ mod kinds;
 mod laws;
 mod numbering;
 mod plan;
+mod references;
 mod root;
 mod shape;
 mod text;
 mod uniqueness;
+mod valid;
 
 pub use gauge::{Bound, Gauge, Shown, Whole};
 pub use plan::{
@@ -20,3 +22,4 @@ pub use plan::{
 };
 pub use root::{Method, Root, Unary, after, root_at};
 pub use text::{node_text, plan_text};
+pub use valid::check_plan;

@@ -2,7 +2,8 @@
 ghost use Rattle.std.specs.Prelude.{◌≡◌, ◌-◌, ◌≤◌, ◌<◌, ◌^◌, ◌+◌, length, max, OnSome};
 ghost use Rattle.std.specs.Option.{option_map};
 ghost use Rattle.pm_plan.specs.Preorder.{node_at};
-ghost use Rattle.pm_plan.specs.Standing.{root_node};
+ghost use Rattle.pm_plan.specs.Tree.{pads};
+ghost use Rattle.pm_plan.specs.Standing.{method_of, root_node};
 
 use crate::plan::{Aggregates, Label, Node, Pairs, SortKeys, Unique};
 use pm_values::{Columns, Cond};
@@ -141,4 +142,14 @@ pub fn after(n: usize, number: u32) -> usize
     ensures { result ≡ max (n + 1) number }
 {
     (n + 1).max(number as usize)
+}
+
+/// Whether a left row without a match is handed out with NULLs.
+pub fn pads(method: Method) -> bool
+    ensures { result ≡ pads (method_of method) }
+{
+    match method {
+        Method::Hash { pad } => pad,
+        Method::Merge => false,
+    }
 }

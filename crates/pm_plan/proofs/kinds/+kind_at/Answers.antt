@@ -1,5 +1,4 @@
 use Rattle.std.proofs.Common.{inl, inr, refl, ap, sym, ◌∙◌, arith, Some, slice_get}
-use Rattle.std.specs.Option.{option_and_then}
 use Rattle.pm_values.specs.declared.value.Kind.TheVariants as kind
 use Rattle.pm_plan.specs.Preorder.{Subplan, Rooted}
 use Rattle.pm_plan.specs.Kinds.{kinds_of}

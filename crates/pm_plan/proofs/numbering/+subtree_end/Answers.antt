@@ -1,4 +1,4 @@
-use Rattle.std.proofs.Common.{◌≡◌, Some, sym, ap, ◌∙◌, subst}
+use Rattle.std.proofs.Common.{sym, subst}
 use Rattle.pm_plan.specs.Preorder.{Rooted}
 use Rattle.pm_plan.specs.Standing.{IsSeekAt, IsEnd}
 use Rattle.pm_plan.proofs.Inversion.{found_is, none_stands, no_seek, begins, over_at, join_at, index_at}
