@@ -23,3 +23,5 @@ pub mod Narrow
 pub mod WellFormedRows
 pub mod Summable
 pub mod Adding
+pub mod Evaluating
+pub mod Examples

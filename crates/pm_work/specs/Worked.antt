@@ -87,6 +87,19 @@ keyless_join =
     Over (Project (0 ∷ 1 ∷ []))
     (Join (Hash false) (on (pair 0 0) (flags false false)) (Scan 0 (label (codes "a") (codes "a"))) (Scan 1 (label (codes "b") (codes "b"))))
 
+-- SELECT COUNT(*), a.x FROM a LEFT JOIN b ON a.x = b.y WHERE a.x > 5 GROUP BY a.x ORDER BY COUNT(*) DESC
+abbrev pub counted_left_join : Tree
+counted_left_join =
+    Over (Project (1 ∷ 0 ∷ []))
+    (Over (Sort (record { column = 1; descending = true } ∷ []))
+    (Over (Group (0 ∷ []) (aggregate.CountAll ∷ []))
+    (Join (Hash true) (on (pair 0 0) (flags false false)) (Over (Filter (against comparison.Greater 0 5)) (Scan 0 (label (codes "a") (codes "a")))) (Scan 1 (label (codes "b") (codes "b"))))))
+
+-- SELECT * FROM a JOIN b ON a.x = b.y
+abbrev pub looked_up_keyless : Tree
+looked_up_keyless =
+    Index (Scan 0 (label (codes "a") (codes "a"))) (record { table = 1; label = label (codes "b") (codes "b"); on = on (pair 0 0) (flags false false) }) None
+
 -- ---- groups with NULLs
 
 -- SELECT k, COUNT(*), COUNT(v), SUM(v) FROM g GROUP BY k

@@ -9,3 +9,6 @@ mod worked;
 
 pub use declared::tables_are_declared;
 pub use evaluation::count_whole;
+
+#[cfg(test)]
+mod tests;
