@@ -17,7 +17,7 @@ use Rattle.pm_plan.specs.declared.plan.Aggregate.TheVariants as aggregate
 use Rattle.pm_plan.specs.declared.plan.Pair.{Pair}
 use Rattle.pm_plan.specs.Kinds.{width}
 use Rattle.pm_plan.specs.Rows.{Db, rows_or_none, table_rows, decls_of}
-use Rattle.pm_plan.specs.Joins.{padded_row, joined_by}
+use Rattle.pm_plan.specs.Joins.{joined_by}
 use Rattle.pm_plan.specs.Tree.{Unary, Filter, Project, Sort, Group, Method, Merge, Tree, Scan, Over, Join, Index}
 use Rattle.pm_plan.specs.Valid.{is_group, has_group}
 use Rattle.pm_plan.specs.Outputs.{output, rows_over, keeps_if}
