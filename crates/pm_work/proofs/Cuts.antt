@@ -1,6 +1,6 @@
 -- what any first part of an operator's events has handed out: no more rows than those below it call for so far
-use Rattle.std.proofs.Common.{◌≡◌, ◌≢◌, ℕ, suc, ◌+◌, ◌<◌, ◌≤◌, Bool, true, false, ◌||◌, ◌&&◌, cond, eqb, List, [], ◌∷◌, ◌++◌, length, map, take, refl, sym, ap, subst, ◌∙◌, ◌⊎◌, inl, inr, arith, append_assoc, length-append}
-use Rattle.std.specs.Prelude.{Option}
+use Rattle.std.proofs.Common.{◌≡◌, ◌≢◌, ℕ, suc, ◌+◌, ◌-◌, ◌<◌, ◌≤◌, Bool, true, false, ◌||◌, ◌&&◌, cond, eqb, List, [], ◌∷◌, ◌++◌, length, map, take, refl, sym, ap, subst, ◌∙◌, ◌⊎◌, inl, inr, arith, append_assoc, length-append}
+use Rattle.std.specs.Prelude.{◌==◌, get_or, Option}
 use Rattle.std.specs.List.{flat_map, filter, list_any}
 use Rattle.std.proofs.Math.Seq.{take-append_seam}
 use Rattle.std.proofs.lemmas.Grind.{flat_map-append}
@@ -17,6 +17,7 @@ use Rattle.pm_plan.specs.declared.plan.Pair.{Pair}
 use Rattle.pm_plan.specs.Joins.{left_columns, right_columns, matches, joined_rows, rows_for, join, joined_by, is_greater}
 use Rattle.pm_plan.specs.Tree.{Hash}
 use Rattle.pm_plan.specs.Outputs.{keeps_if}
+use Rattle.pm_work.specs.Changes.{last_row}
 use Rattle.pm_work.specs.Events.{Event, events_of, after, rows_at, through, beyond, merged, seek_events}
 use Rattle.pm_work.proofs.EventLists.{filter-after, is_within, part, part-all, part-none, rows_at-part, rows_at-after, Only, Within, Only-events_of, Within-events_of, Within-after, Within-wider, Only-first, Within-first, rows_at-append, rows_at-cons, rows_at-events_of, rows_at-outside, rows_at-other, rows_at-one, rows_at-own, cut_of-append}
 use Rattle.pm_work.proofs.Merges.{through-beyond, now_of, late_of, own_of, rest_of, now-late, Within-now}
@@ -321,36 +322,46 @@ module _ (pairs : List Pair) (n r top : ℕ) (apart : n + 1 < r) (all : List Row
 
 -- ---- an index join
 
--- the same events but for the rows of node s
-abbrev Alike : ℕ → List Event → List Event → Type 0
-Alike s [] [] = Unit {0}
-Alike s [] (y ∷ ys) = ⊥
-Alike s (x ∷ xs) [] = ⊥
-Alike s (x ∷ xs) (y ∷ ys) = (x.node ≡ y.node) × (x.node ≢ s → x.row ≡ y.row) × Alike s xs ys
+-- the last row of node c after an event
+abbrev next_row : ℕ → Row → Event → Row
+next_row c l x = cond (eqb x.node c) x.row l
 
-alike-append : (s : ℕ) (xs ys us vs : List Event) → Alike s xs ys → Alike s us vs → Alike s (xs ++ us) (ys ++ vs)
-alike-append s [] [] us vs a b = b
-alike-append s [] (y ∷ ys) us vs a b = absurd a
-alike-append s (x ∷ xs) [] us vs a b = absurd a
-alike-append s (x ∷ xs) (y ∷ ys) us vs a b = (a.0, a.1, alike-append s xs ys us vs a.2 b)
+-- the same events, but that the second ones' rows of node s begin with the last row of node c, the first of which is l
+abbrev Paired : ℕ → ℕ → Row → List Event → List Event → Type 0
+Paired s c l [] [] = Unit {0}
+Paired s c l [] (y ∷ ys) = ⊥
+Paired s c l (x ∷ xs) [] = ⊥
+Paired s c l (x ∷ xs) (y ∷ ys) =
+    (x.node ≡ y.node) × (x.node ≢ s → x.row ≡ y.row) × (x.node ≡ s → y.row ≡ l ++ x.row) × Paired s c (next_row c l x) xs ys
 
-alike_counts : (s : ℕ) (xs ys : List Event) → Alike s xs ys → length (rows_at s xs) ≡ length (rows_at s ys)
-alike_counts s [] [] a = refl
-alike_counts s [] (y ∷ ys) a = absurd a
-alike_counts s (x ∷ xs) [] a = absurd a
-alike_counts s (x ∷ xs) (y ∷ ys) a =
-    let deep = alike_counts s xs ys a.2 in
+-- the last row of node c, l where there is none
+abbrev last_at : ℕ → Row → List Event → Row
+last_at c l [] = l
+last_at c l (x ∷ xs) = last_at c (next_row c l x) xs
+
+paired-append : (s c : ℕ) (l : Row) (xs ys us vs : List Event) → Paired s c l xs ys → Paired s c (last_at c l xs) us vs → Paired s c l (xs ++ us) (ys ++ vs)
+paired-append s c l [] [] us vs a b = b
+paired-append s c l [] (y ∷ ys) us vs a b = absurd a
+paired-append s c l (x ∷ xs) [] us vs a b = absurd a
+paired-append s c l (x ∷ xs) (y ∷ ys) us vs a b = (a.0, a.1, a.2, paired-append s c (next_row c l x) xs ys us vs a.3 b)
+
+paired_counts : (s c : ℕ) (l : Row) (xs ys : List Event) → Paired s c l xs ys → length (rows_at s xs) ≡ length (rows_at s ys)
+paired_counts s c l [] [] a = refl
+paired_counts s c l [] (y ∷ ys) a = absurd a
+paired_counts s c l (x ∷ xs) [] a = absurd a
+paired_counts s c l (x ∷ xs) (y ∷ ys) a =
+    let deep = paired_counts s c (next_row c l x) xs ys a.3 in
     elim (cases_Bool (eqb x.node s)) [
       | inl h ↦ let g : eqb y.node s ≡ true = ap (λ k. eqb k s) (sym a.0) ∙ h in rw (h, g) (ap suc deep)
       | inr h ↦ let g : eqb y.node s ≡ false = ap (λ k. eqb k s) (sym a.0) ∙ h in rw (h, g) deep
     ]
 
-alike_rows : (s m : ℕ) (xs ys : List Event) → m ≢ s → Alike s xs ys → rows_at m xs ≡ rows_at m ys
-alike_rows s m [] [] o a = refl
-alike_rows s m [] (y ∷ ys) o a = absurd a
-alike_rows s m (x ∷ xs) [] o a = absurd a
-alike_rows s m (x ∷ xs) (y ∷ ys) o a =
-    let deep = alike_rows s m xs ys o a.2 in
+paired_rows : (s c m : ℕ) (l : Row) (xs ys : List Event) → m ≢ s → Paired s c l xs ys → rows_at m xs ≡ rows_at m ys
+paired_rows s c m l [] [] o a = refl
+paired_rows s c m l [] (y ∷ ys) o a = absurd a
+paired_rows s c m l (x ∷ xs) [] o a = absurd a
+paired_rows s c m l (x ∷ xs) (y ∷ ys) o a =
+    let deep = paired_rows s c m (next_row c l x) xs ys o a.3 in
     elim (cases_Bool (eqb x.node m)) [
       | inl h ↦
           let g : eqb y.node m ≡ true = ap (λ k. eqb k m) (sym a.0) ∙ h in
@@ -359,18 +370,34 @@ alike_rows s m (x ∷ xs) (y ∷ ys) o a =
       | inr h ↦ let g : eqb y.node m ≡ false = ap (λ k. eqb k m) (sym a.0) ∙ h in rw (h, g) deep
     ]
 
-record AlikeCut (s : ℕ) (done es : List Event) : Type 0 where
+pub last_at-rows : (c : ℕ) (l : Row) (es : List Event) → last_at c l es ≡ get_or (l ∷ rows_at c es) (length (rows_at c es)) []
+last_at-rows c l [] = refl
+last_at-rows c l (x ∷ es) =
+    elim (cases_Bool (eqb x.node c)) [
+      | inl h ↦ rw h (last_at-rows c x.row es)
+      | inr h ↦ rw h (last_at-rows c l es)
+    ]
+
+last_at-last : (c : ℕ) (es : List Event) → last_at c [] es ≡ last_row (rows_at c es)
+last_at-last c es = last_at-rows c [] es ∙ shifted (rows_at c es)
+  where
+    shifted : (rows : List Row) → get_or ([] ∷ rows) (length rows) [] ≡ last_row rows
+    shifted [] = refl
+    shifted (row ∷ rows) = let e : length rows ≡ suc (length rows) - 1 = omega arith in ap (λ i. get_or (row ∷ rows) i []) e
+
+record PairedCut (s c : ℕ) (l : Row) (done left es : List Event) : Type 0 where
   first : List Event
   rest : List Event
   joins : first ++ rest ≡ es
-  alike : Alike s done first
+  paired : Paired s c l done first
+  later : Paired s c (last_at c l done) left rest
 
-alike_cut : (s : ℕ) (done left es : List Event) → Alike s (done ++ left) es → AlikeCut s done es
-alike_cut s [] left es a = record { first = []; rest = es; joins = refl; alike = tt }
-alike_cut s (d ∷ done) left [] a = absurd a
-alike_cut s (d ∷ done) left (e ∷ es) a =
-    let deep : AlikeCut s done es = alike_cut s done left es a.2 in
-    record { first = e ∷ deep.first; rest = deep.rest; joins = ap (λ z. e ∷ z) deep.joins; alike = (a.0, a.1, deep.alike) }
+paired_cut : (s c : ℕ) (l : Row) (done left es : List Event) → Paired s c l (done ++ left) es → PairedCut s c l done left es
+paired_cut s c l [] left es a = record { first = []; rest = es; joins = refl; paired = tt; later = a }
+paired_cut s c l (d ∷ done) left [] a = absurd a
+paired_cut s c l (d ∷ done) left (e ∷ es) a =
+    let deep = paired_cut s c (next_row c l d) done left es a.3 in
+    record { first = e ∷ deep.first; rest = deep.rest; joins = ap (λ z. e ∷ z) deep.joins; paired = (a.0, a.1, a.2, deep.paired); later = deep.later }
 
 after-append : (c : ℕ) (called : Row → List Event) (xs ys : List Event) → after c called (xs ++ ys) ≡ after c called xs ++ after c called ys
 after-append c called [] ys = refl
@@ -378,7 +405,17 @@ after-append c called (x ∷ xs) ys =
     let now : List Event = cond (eqb x.node c) (called x.row) [] in
     ap (λ z. x ∷ z) (ap (λ z. now ++ z) (after-append c called xs ys) ∙ sym (append_assoc now (after c called xs) (after c called ys)))
 
--- Index n over a left side n + 1, with Seek s. Its events are alike to those of a Seek that hands out pairs, under a filter
+record NextIs (row : Row) (rows : List Row) : Type 0 where
+  more : List Row
+  is : rows ≡ row ∷ more
+
+take_one_more : (front : List Row) (row : Row) (more all : List Row) (k : ℕ) → k ≡ length front → front ++ row ∷ more ≡ all → take (k + 1) all ≡ front ++ row ∷ []
+take_one_more front row more all k e whole =
+    ap (take (k + 1)) (sym whole ∙ sym (append_assoc front (row ∷ []) more))
+    ∙ ap (λ i. take i ((front ++ row ∷ []) ++ more)) (omega (arith, e, length-append front (row ∷ [])))
+    ∙ take-append_seam (front ++ row ∷ []) more
+
+-- Index n over a left side n + 1, with Seek s. Its events are those of a Seek that hands out pairs, under a filter, but for the Seek's rows
 module _ (condition : Option Cond) (n s : ℕ) (apart : n + 1 < s) (pairs : List Pair) (all : List Row) where
   abbrev seeks : Row → List Event
   seeks l = events_of s (joined_rows pairs all l)
@@ -386,28 +423,70 @@ module _ (condition : Option Cond) (n s : ℕ) (apart : n + 1 < s) (pairs : List
   abbrev keeping : Row → List Event
   keeping row = events_of n (filter (keeps_if condition) (row ∷ []))
 
-  alike_pairs : (l : Row) (rows : List Row) → Alike s (flat_map (seek_events condition n s l) rows) (after s keeping (events_of s (map (λ r. l ++ r) rows)))
-  alike_pairs l [] = tt
-  alike_pairs l (row ∷ rows) =
-      let deep = alike_pairs l rows in
+  paired_pairs : (l : Row) (rows : List Row) → Paired s (n + 1) l (flat_map (seek_events condition n s l) rows) (after s keeping (events_of s (map (λ r. l ++ r) rows)))
+  paired_pairs l [] = tt
+  paired_pairs l (row ∷ rows) =
+      let found : Event = record { node = s; row = row } in
+      let own : Event = record { node = n; row = l ++ row } in
+      let next : List Event = flat_map (seek_events condition n s l) rows in
+      let made : List Event = after s keeping (events_of s (map (λ r. l ++ r) rows)) in
+      let deep : Paired s (n + 1) l next made = paired_pairs l rows in
+      let not_s : eqb s (n + 1) ≡ false = ne_eqb s (n + 1) (λ z. absurd (omega (arith, z, apart))) in
+      let not_n : eqb n (n + 1) ≡ false = ne_eqb n (n + 1) (λ z. absurd (omega (arith, z))) in
+      let after_found : (xs ys : List Event) → Paired s (n + 1) l xs ys → Paired s (n + 1) (next_row (n + 1) l found) xs ys =
+      λ xs ys p. subst (λ t. Paired s (n + 1) (cond t row l) xs ys) (sym not_s) p in
+      let after_own : Paired s (n + 1) (next_row (n + 1) l own) next made = subst (λ t. Paired s (n + 1) (cond t (l ++ row) l) next made) (sym not_n) deep in
       rw (eq-eqb s s refl) (
-      elim (keeps_if condition (l ++ row)) as (λ t. Alike s (record { node = s; row = row } ∷ (cond t (record { node = n; row = l ++ row } ∷ []) [] ++ flat_map (seek_events condition n s l) rows)) (record { node = s; row = l ++ row } ∷ (events_of n (cond t ((l ++ row) ∷ []) []) ++ after s keeping (events_of s (map (λ r. l ++ r) rows)))))
-      [ true ↦ (refl, (λ o. absurd (o refl)), (refl, (λ o. refl), deep)) | false ↦ (refl, (λ o. absurd (o refl)), deep) ])
+      elim (keeps_if condition (l ++ row)) as (λ t. Paired s (n + 1) l (found ∷ (cond t (own ∷ []) [] ++ next)) (record { node = s; row = l ++ row } ∷ (events_of n (cond t ((l ++ row) ∷ []) []) ++ made))) [
+        | true ↦ (refl, (λ o. absurd (o refl)), (λ z. refl), after_found (own ∷ next) (own ∷ made) (refl, (λ o. refl), (λ z. absurd (omega (arith, z, apart))), after_own))
+        | false ↦ (refl, (λ o. absurd (o refl)), (λ z. refl), after_found next made deep)
+      ])
 
-  alike_events : (lefts : List Event) → Within (n + 1) s lefts
-      → Alike s (after (n + 1) (λ l. flat_map (seek_events condition n s l) (matches pairs l all)) lefts) (after s keeping (after (n + 1) seeks lefts))
-  alike_events [] w = tt
-  alike_events (x ∷ lefts) w =
+  paired_events : (l : Row) (lefts : List Event) → Within (n + 1) s lefts
+      → Paired s (n + 1) l (after (n + 1) (λ l. flat_map (seek_events condition n s l) (matches pairs l all)) lefts) (after s keeping (after (n + 1) seeks lefts))
+  paired_events l [] w = tt
+  paired_events l (x ∷ lefts) w =
+      let looked : Row → List Event = λ l. flat_map (seek_events condition n s l) (matches pairs l all) in
       let now : List Event = cond (eqb x.node (n + 1)) (seeks x.row) [] in
-      let own : Alike s (cond (eqb x.node (n + 1)) (flat_map (seek_events condition n s x.row) (matches pairs x.row all)) []) (after s keeping now) =
-      elim (eqb x.node (n + 1)) as (λ t. Alike s (cond t (flat_map (seek_events condition n s x.row) (matches pairs x.row all)) []) (after s keeping (cond t (seeks x.row) [])))
-      [ true ↦ alike_pairs x.row (matches pairs x.row all) | false ↦ tt ] in
+      let own : Paired s (n + 1) (next_row (n + 1) l x) (cond (eqb x.node (n + 1)) (looked x.row) []) (after s keeping now) =
+      elim (eqb x.node (n + 1)) as (λ t. Paired s (n + 1) (cond t x.row l) (cond t (looked x.row) []) (after s keeping (cond t (seeks x.row) [])))
+      [ true ↦ paired_pairs x.row (matches pairs x.row all) | false ↦ tt ] in
+      let rest : Paired s (n + 1) (last_at (n + 1) (next_row (n + 1) l x) (cond (eqb x.node (n + 1)) (looked x.row) [])) (after (n + 1) looked lefts) (after s keeping (after (n + 1) seeks lefts)) =
+      paired_events (last_at (n + 1) (next_row (n + 1) l x) (cond (eqb x.node (n + 1)) (looked x.row) [])) lefts w.2 in
       let split : after s keeping (now ++ after (n + 1) seeks lefts) ≡ after s keeping now ++ after s keeping (after (n + 1) seeks lefts) = after-append s keeping now (after (n + 1) seeks lefts) in (
         refl,
         (λ o. refl),
+        (λ z. absurd (omega (arith, z, w.1))),
         rw (ne_eqb x.node s (λ z. absurd (omega (arith, z, w.1))))
-            (subst (Alike s _) (sym split) (alike-append s _ (after s keeping now) _ (after s keeping (after (n + 1) seeks lefts)) own (alike_events lefts w.2))),
+            (subst (Paired s (n + 1) (next_row (n + 1) l x) _) (sym split) (paired-append s (n + 1) (next_row (n + 1) l x) _ (after s keeping now) _ (after s keeping (after (n + 1) seeks lefts)) own rest)),
       )
+
+  abbrev paired_list : List Event → List Event
+  paired_list lefts = after s keeping (after (n + 1) seeks lefts)
+
+  -- its pairs, in order
+  rows_at-paired : (lefts : List Event) → Within (n + 1) s lefts → rows_at s (paired_list lefts) ≡ join pairs (rows_at (n + 1) lefts) all
+  rows_at-paired lefts w =
+      ap (map (λ e. e.row)) (filter-after (λ e. e.node == s) s keeping (after (n + 1) seeks lefts) (λ row. none row))
+      ∙ rows_at-after s (n + 1) (n + 1) s seeks (joined_rows pairs all) lefts (λ l. rows_at-events_of s (joined_rows pairs all l)) w (inr (omega arith))
+    where
+      none : (row : Row) → filter (λ e. e.node == s) (keeping row) ≡ []
+      none row =
+          elim (keeps_if condition row) as (λ t. filter (λ e. e.node == s) (events_of n (cond t (row ∷ []) [])) ≡ [])
+          [ true ↦ rw (ne_eqb n s (λ z. absurd (omega (arith, z, apart)))) refl | false ↦ refl ]
+
+  -- a first part of the events, with its pairs
+  cut_of_index : (lefts done left : List Event) → Within (n + 1) s lefts
+      → done ++ left ≡ after (n + 1) (λ l. flat_map (seek_events condition n s l) (matches pairs l all)) lefts → PairedCut s (n + 1) [] done left (paired_list lefts)
+  cut_of_index lefts done left w e =
+      paired_cut s (n + 1) [] done left (paired_list lefts) (subst (λ es. Paired s (n + 1) [] es (paired_list lefts)) (sym e) (paired_events [] lefts w))
+
+  first_pairs : (lefts done left : List Event) → Within (n + 1) s lefts → (cut : PairedCut s (n + 1) [] done left (paired_list lefts))
+      → take (length (rows_at s done)) (join pairs (rows_at (n + 1) lefts) all) ≡ rows_at s cut.first
+  first_pairs lefts done left w cut =
+      ap (λ k. take k (join pairs (rows_at (n + 1) lefts) all)) (paired_counts s (n + 1) [] done cut.first cut.paired)
+      ∙ front_of (rows_at s cut.first) (rows_at s cut.rest) (join pairs (rows_at (n + 1) lefts) all)
+      (sym (rows_at-append s cut.first cut.rest) ∙ ap (rows_at s) cut.joins ∙ rows_at-paired lefts w)
 
   -- of the pairs looked up so far at most the kept ones are handed out, and no more pairs are looked up than there are of the left rows so far
   pub record IndexIsCut (lefts done : List Event) : Type 0 where
@@ -418,34 +497,50 @@ module _ (condition : Option Cond) (n s : ℕ) (apart : n + 1 < s) (pairs : List
       → done ++ left ≡ after (n + 1) (λ l. flat_map (seek_events condition n s l) (matches pairs l all)) lefts → IndexIsCut lefts done
   index_cut lefts done left w e =
       let inner : List Event = after (n + 1) seeks lefts in
-      let cut : AlikeCut s done (after s keeping inner) = alike_cut s done left (after s keeping inner) (subst (λ es. Alike s es (after s keeping inner)) (sym e) (alike_events lefts w)) in
+      let cut : PairedCut s (n + 1) [] done left (paired_list lefts) = cut_of_index lefts done left w e in
       let in_inner : Within (n + 1) (s + 1) inner =
       Within-after (n + 1) (s + 1) (n + 1) seeks lefts (λ l. Within-wider s (s + 1) (n + 1) (s + 1) (seeks l) (omega (arith, apart)) (omega arith) (Within-events_of s (s + 1) (joined_rows pairs all l) (omega arith)))
       (Within-wider (n + 1) s (n + 1) (s + 1) lefts (omega arith) (omega arith) w) in
       let kept_few : length (rows_at n cut.first) ≤ length (flat_map (λ row. filter (keeps_if condition) (row ∷ [])) (rows_at s cut.first)) =
       streamed_few n s (n + 1) (s + 1) (λ z. absurd (omega (arith, z, apart))) (inl (omega arith)) (λ row. filter (keeps_if condition) (row ∷ [])) inner cut.first cut.rest in_inner cut.joins in
-      let own : part (n + 1) (s + 1) (after s keeping inner) ≡ inner =
+      let own : part (n + 1) (s + 1) (paired_list lefts) ≡ inner =
       filter-after (is_within (n + 1) (s + 1)) s keeping inner (λ row. part-none (n + 1) (s + 1) n (n + 1) (keeping row) (Within-events_of n (n + 1) (filter (keeps_if condition) (row ∷ [])) (omega arith)) (inl (omega arith)))
       ∙ part-all (n + 1) (s + 1) inner in_inner in
       let parts : part (n + 1) (s + 1) cut.first ++ part (n + 1) (s + 1) cut.rest ≡ inner = sym (filter-append (is_within (n + 1) (s + 1)) cut.first cut.rest) ∙ ap (part (n + 1) (s + 1)) cut.joins ∙ own in
       let sought_few : length (rows_at s (part (n + 1) (s + 1) cut.first)) ≤ length (flat_map (joined_rows pairs all) (rows_at (n + 1) (part (n + 1) (s + 1) cut.first))) =
       streamed_few s (n + 1) (n + 1) s (λ z. absurd (omega (arith, z, apart))) (inr (omega arith)) (joined_rows pairs all) lefts (part (n + 1) (s + 1) cut.first) (part (n + 1) (s + 1) cut.rest) w parts in
-      let at_seek : rows_at s (part (n + 1) (s + 1) cut.first) ≡ rows_at s cut.first = rows_at-part s (n + 1) (s + 1) cut.first (omega (arith, apart)) (omega arith) in
       let at_left : rows_at (n + 1) (part (n + 1) (s + 1) cut.first) ≡ rows_at (n + 1) done =
-      rows_at-part (n + 1) (n + 1) (s + 1) cut.first (omega arith) (omega (arith, apart)) ∙ sym (alike_rows s (n + 1) done cut.first (λ z. absurd (omega (arith, z, apart))) cut.alike) in
-      let whole : rows_at s (part (n + 1) (s + 1) cut.first) ++ rows_at s (part (n + 1) (s + 1) cut.rest) ≡ join pairs (rows_at (n + 1) lefts) all =
-      sym (rows_at-append s (part (n + 1) (s + 1) cut.first) (part (n + 1) (s + 1) cut.rest)) ∙ ap (rows_at s) parts
-      ∙ rows_at-after s (n + 1) (n + 1) s seeks (joined_rows pairs all) lefts (λ l. rows_at-events_of s (joined_rows pairs all l)) w (inr (omega arith)) in
-      let number : length (rows_at s done) ≡ length (rows_at s cut.first) = alike_counts s done cut.first cut.alike in
-      let first : take (length (rows_at s done)) (join pairs (rows_at (n + 1) lefts) all) ≡ rows_at s cut.first =
-      ap (λ k. take k (join pairs (rows_at (n + 1) lefts) all)) (number ∙ ap length (sym at_seek)) ∙ front_of (rows_at s (part (n + 1) (s + 1) cut.first)) (rows_at s (part (n + 1) (s + 1) cut.rest)) (join pairs (rows_at (n + 1) lefts) all) whole ∙ at_seek in
+      rows_at-part (n + 1) (n + 1) (s + 1) cut.first (omega arith) (omega (arith, apart)) ∙ sym (paired_rows s (n + 1) (n + 1) [] done cut.first (λ z. absurd (omega (arith, z, apart))) cut.paired) in
+      let number : length (rows_at s done) ≡ length (rows_at s cut.first) = paired_counts s (n + 1) [] done cut.first cut.paired in
       record {
         few = omega (
           arith,
           kept_few,
           ap length (flat_map-filter (keeps_if condition) (rows_at s cut.first)),
-          ap length (alike_rows s n done cut.first (λ z. absurd (omega (arith, z, apart))) cut.alike),
-          ap (λ rows. length (filter (keeps_if condition) rows)) first,
+          ap length (paired_rows s (n + 1) n [] done cut.first (λ z. absurd (omega (arith, z, apart))) cut.paired),
+          ap (λ rows. length (filter (keeps_if condition) rows)) (first_pairs lefts done left w cut),
         );
-        found = omega (arith, sought_few, number, ap length at_seek, ap (λ rows. length (join pairs rows all)) at_left);
+        found = omega (arith, sought_few, number, ap length (rows_at-part s (n + 1) (s + 1) cut.first (omega (arith, apart)) (omega arith)), ap (λ rows. length (join pairs rows all)) at_left);
       }
+
+  -- a row of the Seek is paired with the last left row
+  pub next_pair : (lefts done : List Event) (e : Event) (left : List Event) → Within (n + 1) s lefts
+      → done ++ e ∷ left ≡ after (n + 1) (λ l. flat_map (seek_events condition n s l) (matches pairs l all)) lefts → e.node ≡ s
+      → take (length (rows_at s done) + 1) (join pairs (rows_at (n + 1) lefts) all)
+      ≡ take (length (rows_at s done)) (join pairs (rows_at (n + 1) lefts) all) ++ (last_row (rows_at (n + 1) done) ++ e.row) ∷ []
+  next_pair lefts done e left w cuts own =
+      let cut : PairedCut s (n + 1) [] done (e ∷ left) (paired_list lefts) = cut_of_index lefts done (e ∷ left) w cuts in
+      let J : List Row = join pairs (rows_at (n + 1) lefts) all in
+      let K : ℕ = length (rows_at s done) in
+      let number : K ≡ length (rows_at s cut.first) = paired_counts s (n + 1) [] done cut.first cut.paired in
+      let whole : rows_at s cut.first ++ rows_at s cut.rest ≡ J = sym (rows_at-append s cut.first cut.rest) ∙ ap (rows_at s) cut.joins ∙ rows_at-paired lefts w in
+      let front : take K J ≡ rows_at s cut.first = first_pairs lefts done (e ∷ left) w cut in
+      let next : NextIs (last_row (rows_at (n + 1) done) ++ e.row) (rows_at s cut.rest) =
+      next_row_is (last_row (rows_at (n + 1) done)) cut.rest (subst (λ l. Paired s (n + 1) l (e ∷ left) cut.rest) (last_at-last (n + 1) done) cut.later) own in
+      take_one_more (rows_at s cut.first) (last_row (rows_at (n + 1) done) ++ e.row) next.more J K number (ap (λ rows. rows_at s cut.first ++ rows) (sym next.is) ∙ whole)
+      ∙ ap (λ rows. rows ++ (last_row (rows_at (n + 1) done) ++ e.row) ∷ []) (sym front)
+    where
+      next_row_is : (l : Row) (rest : List Event) → Paired s (n + 1) l (e ∷ left) rest → e.node ≡ s → NextIs (l ++ e.row) (rows_at s rest)
+      next_row_is l [] p own = absurd p
+      next_row_is l (y ∷ rest) p own =
+          record { more = rows_at s rest; is = rows_at-cons s y rest ∙ ap (λ rows. rows ++ rows_at s rest) (rows_at-own s y (sym p.0 ∙ own)) ∙ ap (λ r. r ∷ rows_at s rest) (p.2 own) }

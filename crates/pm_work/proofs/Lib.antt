@@ -18,3 +18,10 @@ pub mod Cuts
 pub mod Orders
 pub mod Gauges
 pub mod FirstBounds
+pub mod Changes
+pub mod Narrow
+pub mod WellFormedRows
+pub mod Summable
+pub mod Adding
+pub mod Evaluating
+pub mod Examples

@@ -2,8 +2,10 @@ pub mod Formulas
 pub mod Events
 pub mod Work
 pub mod Moments
+pub mod Changes
 pub mod Orderly
 pub mod Facts
 pub mod First
 pub mod Fits
 pub mod Worked
+pub mod Evaluation

@@ -2,6 +2,7 @@
 use Rattle.std.specs.Prelude.{true, false, [], ◌∷◌, None, codes}
 use Rattle.pm_values.specs.declared.condition.Comparison.TheVariants as comparison
 use Rattle.pm_plan.specs.declared.plan.Aggregate.TheVariants as aggregate
+use Rattle.pm_plan.specs.declared.plan.Unique.{Unique}
 use Rattle.pm_plan.specs.Tree.{Filter, Project, Sort, Group, Hash, Merge, Tree, Scan, Over, Join, Index, Seek}
 use Rattle.pm_plan.specs.Worked.{label, against, pair, flags, on}
 
@@ -69,12 +70,14 @@ summed =
 
 -- ---- a small table and one with a KEY
 
--- SELECT b.id FROM one a JOIN big b ON a.x = b.id
-abbrev pub looked_up : Tree
-looked_up =
+-- SELECT b.id FROM one a JOIN big b ON a.x = b.id, with these flags
+abbrev pub looked_up_with : Unique → Tree
+looked_up_with unique =
     Over (Project (1 ∷ []))
-    (Index (Scan 0 (label (codes "one") (codes "a")))
-    (record { table = 1; label = label (codes "big") (codes "b"); on = on (pair 0 0) (flags false true) }) None)
+    (Index (Scan 0 (label (codes "one") (codes "a"))) (record { table = 1; label = label (codes "big") (codes "b"); on = on (pair 0 0) unique }) None)
+
+abbrev pub looked_up : Tree
+looked_up = looked_up_with (flags false true)
 
 -- ---- two tables without a KEY
 
@@ -83,6 +86,19 @@ abbrev pub keyless_join : Tree
 keyless_join =
     Over (Project (0 ∷ 1 ∷ []))
     (Join (Hash false) (on (pair 0 0) (flags false false)) (Scan 0 (label (codes "a") (codes "a"))) (Scan 1 (label (codes "b") (codes "b"))))
+
+-- SELECT COUNT(*), a.x FROM a LEFT JOIN b ON a.x = b.y WHERE a.x > 5 GROUP BY a.x ORDER BY COUNT(*) DESC
+abbrev pub counted_left_join : Tree
+counted_left_join =
+    Over (Project (1 ∷ 0 ∷ []))
+    (Over (Sort (record { column = 1; descending = true } ∷ []))
+    (Over (Group (0 ∷ []) (aggregate.CountAll ∷ []))
+    (Join (Hash true) (on (pair 0 0) (flags false false)) (Over (Filter (against comparison.Greater 0 5)) (Scan 0 (label (codes "a") (codes "a")))) (Scan 1 (label (codes "b") (codes "b"))))))
+
+-- SELECT * FROM a JOIN b ON a.x = b.y
+abbrev pub looked_up_keyless : Tree
+looked_up_keyless =
+    Index (Scan 0 (label (codes "a") (codes "a"))) (record { table = 1; label = label (codes "b") (codes "b"); on = on (pair 0 0) (flags false false) }) None
 
 -- ---- groups with NULLs
 

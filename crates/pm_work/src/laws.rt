@@ -1,5 +1,5 @@
 //! The laws of the definitions, each the contract of a function that does nothing.
-ghost use Rattle.std.specs.Prelude.{◌≡◌, ℕ, ◌≤◌, true, List, ◌++◌, length, All, Option};
+ghost use Rattle.std.specs.Prelude.{◌≡◌, ℕ, ◌≤◌, true, List, [], ◌∷◌, ◌++◌, length, All, Option};
 ghost use Rattle.pm_values.specs.Table.{IsRelation};
 ghost use Rattle.pm_values.specs.declared.condition.Cond.{Cond};
 ghost use Rattle.pm_plan.specs.Rows.{Db, decls_of};
@@ -8,7 +8,8 @@ ghost use Rattle.pm_plan.specs.Outputs.{output, sought};
 ghost use Rattle.pm_plan.specs.Unique.{unique_on};
 ghost use Rattle.pm_work.specs.Events.{Event, events, rows_at, counts};
 ghost use Rattle.pm_work.specs.Work.{whole_work};
-ghost use Rattle.pm_work.specs.Moments.{Counts, HasGauges, gauges_of, gauge_in, counts_at};
+ghost use Rattle.pm_work.specs.Moments.{Counts, gauge_of, seek_gauge, HasGauges, gauges_of, gauge_in, counts_at};
+ghost use Rattle.pm_work.specs.Changes.{gauge_after, seek_gauge_after, numbers_read, numbers_sought, AgreeAt};
 ghost use Rattle.pm_work.specs.Orderly.{Orderly};
 ghost use Rattle.pm_work.specs.Facts.{KeysDiffer, AtMostOne, AllFlagsHold, MergesAscend};
 ghost use Rattle.pm_work.specs.Fits.{IsSound, sizes_of};
@@ -73,4 +74,17 @@ pub fn rows_within_first()
 pub fn gauges_are_read()
     ensures gauges { (db : Db) (tree : Tree) (K : Counts) → HasGauges db tree 1 K (gauge_in (gauges_of db tree 1 K)) }
     ensures each_node { (db : Db) (tree : Tree) (n : ℕ) (K : Counts) → length (gauges_of db tree n K) ≡ size tree }
+{}
+
+/// In a sound plan an event adds one to the count of its own node, and at the node that reads its row it adds what the row
+/// settles there, and at a hash join its key to the greatest multiplicity. A row of the left side of an index join settles
+/// its matches at the Seek, and a row of the Seek the pair with the last left row at the Index. No other gauge changes: each
+/// is made of the counts of its own node and of those that this one reads.
+pub fn events_change_gauges()
+    ensures after { (db : Db) (tree : Tree) (done : List Event) (e : Event) (left : List Event) → IsSound db tree → done ++ e ∷ left ≡ events db tree 1
+        → EachAt (λ t n. gauge_of db t n (counts (done ++ e ∷ [])) ≡ gauge_after db t n (counts done) e)
+        (λ u seek n. seek_gauge db u seek n (counts (done ++ e ∷ [])) ≡ seek_gauge_after db u seek n (counts done) e) tree 1 }
+    ensures others { (db : Db) (tree : Tree) (n : ℕ) (K L : Counts) → AgreeAt (numbers_read tree n) K L → gauge_of db tree n K ≡ gauge_of db tree n L }
+    ensures other_seeks { (db : Db) (left : Tree) (seek : Seek) (n : ℕ) (K L : Counts) → AgreeAt (numbers_sought left n) K L
+        → seek_gauge db left seek n K ≡ seek_gauge db left seek n L }
 {}

@@ -2,5 +2,13 @@
 //! whole work, counted in rows (the getnext model of work of Chaudhuri, Narasayya and Ramamurthy, SIGMOD 2004).
 #![tactic(auto)]
 
+mod declared;
+mod evaluation;
 mod laws;
 mod worked;
+
+pub use declared::tables_are_declared;
+pub use evaluation::count_whole;
+
+#[cfg(test)]
+mod tests;

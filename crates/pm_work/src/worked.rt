@@ -1,12 +1,12 @@
 //! Worked examples of the definitions, each the contract of a function that does nothing: they are proved by computing.
-ghost use Rattle.std.specs.Prelude.{◌≡◌, [], ◌∷◌, codes, None};
+ghost use Rattle.std.specs.Prelude.{◌≡◌, [], ◌∷◌, false, codes, None, Some};
 ghost use Rattle.pm_values.specs.declared.value.Value.TheVariants.{Null, Text};
 ghost use Rattle.pm_plan.specs.Outputs.{output};
 ghost use Rattle.pm_work.specs.Events.{trace};
 ghost use Rattle.pm_work.specs.Work.{whole_work, scanned_rows};
-ghost use Rattle.pm_plan.specs.Worked.{number, shop, ordered_shop, no_orders, customers_alone, orders_alone, customers_first, referring_shop, few_and_many, keyless, groups};
+ghost use Rattle.pm_plan.specs.Worked.{flags, number, shop, ordered_shop, no_orders, customers_alone, orders_alone, customers_first, referring_shop, few_and_many, keyless, groups};
 ghost use Rattle.pm_work.specs.First.{first_sum, too_wide};
-ghost use Rattle.pm_work.specs.Worked.{hashed, sought_rows, sought_all, merged_rows, merged_few, counted, order_ids, customers_from_two, summed, looked_up, keyless_join, grouped_rows, grouped_few, distinct_rows, paired_rows, total_join, padded_join};
+ghost use Rattle.pm_work.specs.Worked.{hashed, sought_rows, sought_all, merged_rows, merged_few, counted, order_ids, customers_from_two, summed, looked_up, looked_up_with, keyless_join, grouped_rows, grouped_few, distinct_rows, paired_rows, total_join, padded_join};
 
 /// A hash join reads its right side first, and then hands out its matches right after each row of its left side.
 pub fn hash_join_worked()
@@ -72,6 +72,22 @@ pub fn sort_worked()
     ensures rows { output orders_alone summed ≡ (number 1 ∷ number 12 ∷ []) ∷ (number 3 ∷ number 9 ∷ []) ∷ (number 9 ∷ number 1 ∷ []) ∷ [] }
     ensures trace { trace orders_alone summed ≡ 4 ∷ 4 ∷ 4 ∷ 4 ∷ 3 ∷ 3 ∷ 3 ∷ 2 ∷ 1 ∷ 2 ∷ 1 ∷ 2 ∷ 1 ∷ [] }
     ensures work { whole_work orders_alone summed ≡ 13 }
+{}
+
+/// A sum is taken over 10^18 rows at most. Where a plan has two bounds that are too great, that of the whole work is told.
+pub fn too_wide_worked()
+    ensures many_summed { too_wide (1000001000000000000 ∷ []) summed ≡ Some 1000001000000000000 }
+    ensures few_summed { too_wide (1000000000000000000 ∷ []) summed ≡ None }
+    ensures none_summed { too_wide (1000001000000000000 ∷ []) counted ≡ None }
+    ensures most_work { too_wide (5000000000000000000000000000000000 ∷ []) order_ids ≡ None }
+    ensures more_work { too_wide (5000000000000000000000000000000001 ∷ []) order_ids ≡ Some 10000000000000000000000000000000002 }
+    ensures work_first { too_wide (10000000000000000000000000000000000 ∷ []) summed ≡ Some 40000000000000000000000000000000000 }
+{}
+
+/// The most rows of one key are one where the KEY says so, and else all of the table's.
+pub fn first_seek_worked()
+    ensures keyed { first_sum (2 ∷ 4 ∷ []) looked_up ≡ 8 }
+    ensures keyless { first_sum (2 ∷ 4 ∷ []) (looked_up_with (flags false false)) ≡ 26 }
 {}
 
 /// A left join hands out a left row without a match once, with NULLs.
