@@ -227,5 +227,5 @@ entries d = record {
 pub body_reader : (d : ℕ) → Reader BodyNext (λ _ g. IsBody g) d body_at
 unfolding body_at
 body_reader d =
-    listed_reader BodyNext NotNext (is symbol.Comma) (is symbol.Name) ClauseBegins (λ _ _. IsColumn is_name) (λ _ _. IsColumn (is symbol.Name)) (λ columns _ g. IsClauses g columns) MOST_COLUMNS d
-    (column_at is_name) (column_at (is symbol.Name)) (λ c. clauses_at c.0 c.1) (column_reader is_name (sample symbol.Name) name_is d) (entries d)
+    listed_reader BodyNext NotNext (is symbol.Comma) (is symbol.Name) ClauseBegins (λ _ _. IsColumn (is symbol.Name)) (λ columns _ g. IsClauses g columns) MOST_COLUMNS d (column_at (is symbol.Name)) (λ c. clauses_at c.0 c.1) (entries d)
+    (λ _ _. IsColumn is_name) (column_at is_name) (column_reader is_name (sample symbol.Name) name_is d)

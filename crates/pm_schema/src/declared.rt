@@ -5,9 +5,9 @@ ghost use Rattle.pm_schema.specs.Rules.{has, name_of_column};
 ghost use Rattle.pm_schema.specs.References.{table_named};
 ghost use Rattle.pm_schema.specs.Meaning.{IsSound, AreNamed, AreNamedIn, IsNamedReference, position_of, column_number, number_in, numbers, columns_of, declared_column, declared_reference, declared_table, declared};
 
-use crate::marks::first;
 use crate::references::table_named;
 use crate::tree::{ColumnText, ReferenceText, TableText};
+use crate::walk::first;
 use pm_grammar::{PlacedName, PlacedNames};
 use pm_values::{ColumnDecl, ColumnDecls, Columns, Reference, References, TableDecl, TableDecls};
 use std::alloc::{AllocError, Global};

@@ -15,6 +15,7 @@ mod schema;
 mod tables;
 mod terminals;
 mod tree;
+mod walk;
 mod worked;
 
 pub use fault::SchemaBad;

@@ -1,21 +1,12 @@
 //! The tokens as the grammar sees them: KEY and REFERENCES are reserved words before a parenthesis.
-ghost use Rattle.std.specs.Prelude.{◌≡◌, ◌∷◌, [], IfOk, MatchOption};
+ghost use Rattle.std.specs.Prelude.{◌≡◌, IfOk};
 ghost use Rattle.pm_schema.specs.Terminals.{marked, marked_before};
 
 use crate::terminals::Word;
+use crate::walk::first;
 use pm_grammar::{Terminal, sees};
 use pm_lexer::{Symbol, Token, TokenKind, Tokens};
 use std::alloc::{AllocError, Global};
-
-// The first item, and what follows it.
-pub(crate) fn first<T>(items: &[T]) -> Option<(&T, &[T])>
-    ensures { MatchOption result (items.now ≡ []) (λ x. items.now ≡ x.0.now ∷ x.1.now) }
-{
-    match items {
-        [] => None,
-        [item, rest @ ..] => Some((item, rest)),
-    }
-}
 
 // A token as the grammar sees it before these.
 fn marked_before(alloc: Global, token: &Token, rest: &[Token]) -> Result<Token, AllocError>

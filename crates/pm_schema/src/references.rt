@@ -5,9 +5,9 @@ ghost use Rattle.std.specs.List.{list_all};
 ghost use Rattle.pm_schema.specs.Rules.{earlier, has, itself, column_named};
 ghost use Rattle.pm_schema.specs.References.{table_named, same_kind, may_refer, may_all_refer, are_key, has_shape, name_breaches, reference_breaches, all_reference_breaches, table_breaches, first_breach};
 
-use crate::marks::first;
 use crate::rules::{Breach, Fault, Rule, check, check_key, check_order, column_named, has, noted};
 use crate::tree::{ColumnText, ReferenceText, TableText};
+use crate::walk::first;
 use pm_grammar::{PlacedName, PlacedNames};
 use pm_values::Kind;
 

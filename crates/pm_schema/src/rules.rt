@@ -3,8 +3,8 @@ ghost use Rattle.std.specs.Prelude.{◌≡◌, fold};
 ghost use Rattle.std.specs.Option.{option_copied};
 ghost use Rattle.pm_schema.specs.Rules.{has, column_named, is_faulty, breach_at, breaches, key_breaches, order_breaches, rank, earlier};
 
-use crate::marks::first;
 use crate::tree::{ColumnText, TableText};
+use crate::walk::first;
 use pm_grammar::{PlacedName, PlacedNames};
 
 /// A rule that the tables of a schema keep.
