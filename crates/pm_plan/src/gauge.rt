@@ -1,3 +1,4 @@
+//! What a run and its bounds know of an operator, and of the whole plan.
 /// What a run knows of one operator at a moment, in rows.
 #[derive(Clone, Copy, Debug, PartialEq, Eq)]
 pub struct Gauge {

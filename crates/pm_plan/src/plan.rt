@@ -1,3 +1,4 @@
+//! The operators of a plan.
 use pm_values::{Columns, Cond, Items, Kinds, Names, Txt};
 
 /// How a plan line names a table: its name, and the alias that the statement gives it.
@@ -50,7 +51,7 @@ pub enum Aggregate {
 /// A list of aggregates.
 pub type Aggregates = Items<Aggregate>;
 
-/// One operator. Children are named by their numbers in the plan, tables by their places in the database.
+/// One operator. Children are named by their numbers in the plan, tables by their positions in the database.
 #[derive(Debug, Drop)]
 pub enum Node {
     /// Hands out the rows of a table.
@@ -104,7 +105,7 @@ pub enum Node {
         unique: Unique,
     },
     /// Joins its left side with the rows that its Seek looks up. Its condition reads the left row, and the Seek's
-    /// row behind it.
+    /// row after it.
     Index {
         left: u32,
         seek: u32,

@@ -3,7 +3,7 @@ use Rattle.pm_io.specs.Sink.{gained, GainsPart}
 use Rattle.pm_io.proofs.Outside.{gained-gained}
 use Rattle.pm_io.proofs.Parts.{on_err, part_whole, part_first, part_later}
 use Rattle.pm_plan.specs.PlanLines.{plan_lines, node_line}
-use Rattle.pm_plan.proofs.PlanParts.{lines_from, lines-more, lines-cut, lines-next}
+use Rattle.pm_plan.proofs.PlanLines.{lines_from, lines-more, lines-cut, lines-next}
 use Rattle.pm_lines.proofs.plan.put_plan.Goals as goal
 
 pub returns-in_err-line-clause-part : goal.returns-in_err-line-clause-part
