@@ -57,15 +57,20 @@ one_pair left right e = cc
 
 pub counted_left_join_fits : (plan : Plan) → IsPlanOf plan (decls_of keyless) counted_left_join → Fits plan keyless
 counted_left_join_fits plan is =
-    fits_of plan keyless counted_left_join is
-    ((refl, omega arith), ((refl, omega arith), (
-      (record { columns = refl; fit = refl; alone = λ z. absurd cc }, omega arith),
+    fits_of plan keyless counted_left_join is (
+      (refl, omega arith),
       (
-        (record { pairs = record { some = one_pair 0 0; few = omega arith; fit = refl }; flags = refl; joinable = refl; source = refl; ordered = tt }, omega arith),
-        ((fold_compare (condition_layer (kinds_of (decls_of keyless) (Scan 0 (label (codes "a") (codes "a"))))) comparison.Greater (operand.Column 0 0) (operand.Literal (number 5) 0), omega arith), (refl, omega arith)),
         (refl, omega arith),
+        (
+          (record { columns = refl; fit = refl; alone = λ z. absurd cc }, omega arith),
+          (
+            (record { pairs = record { some = one_pair 0 0; few = omega arith; fit = refl }; flags = refl; joinable = refl; source = refl; ordered = tt }, omega arith),
+            ((fold_compare (condition_layer (kinds_of (decls_of keyless) (Scan 0 (label (codes "a") (codes "a"))))) comparison.Greater (operand.Column 0 0) (operand.Literal (number 5) 0), omega arith), (refl, omega arith)),
+            (refl, omega arith),
+          ),
+        ),
       ),
-    )))
+    )
     (omega arith) refl (keyless_references counted_left_join)
 
 pub looked_up_fits : (plan : Plan) → IsPlanOf plan (decls_of keyless) looked_up_keyless → Fits plan keyless
