@@ -12,3 +12,4 @@ pub mod Sets
 pub mod Helpers
 pub mod Symbols
 pub mod Clauses
+pub mod Productions
