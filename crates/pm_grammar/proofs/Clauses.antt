@@ -4,7 +4,7 @@ use Rattle.pm_lexer.specs.declared.token.Token.{Token}
 use Rattle.pm_grammar.specs.Language.{Gate, Is, IsMore, IsClause}
 use Rattle.pm_grammar.specs.Reading.{too_many, Read, ◌>>=◌, place_of, sees, limited_at, more_while, clause_at}
 use Rattle.pm_grammar.proofs.Phrases.{Phrase, Next, Avoids, Able, Began, Law, Reader, Nothing, longer}
-use Rattle.pm_grammar.proofs.Readers.{Then, Or, Same, same_law, first_law, second_law, same_reader, then_reader, then_began, first_began, pure_reader, map_reader, not_seen}
+use Rattle.pm_grammar.proofs.Readers.{Then, Or, Same, same_law, first_law, second_law, same_reader, then_law, then_reader, then_began, first_began, pure_reader, map_reader, not_seen}
 use Rattle.pm_grammar.proofs.Lists.{Further, More, Entry, further_able, entry_began, ThenSome, some_law}
 use Rattle.pm_grammar.proofs.Lists.{Some as SomeOf}
 use Rattle.pm_grammar.proofs.Furthers.{behind_reader, optional_reader, seen_head, past, not_past, no_longer}
@@ -111,7 +111,49 @@ clause_tail {A} {B} S sep word t₀ e₀ F K Q d p q clause none some apart = re
     seen_first next [] h = h
     seen_first next (t ∷ ts) h = inr h.0
 
--- A list, and after it such a tail. An entry begins with a token of `starts`, and the tail after its separator with none.
+abbrev Sep : (Token → Bool) → Phrase Token
+Sep sep _ _ = Is sep
+
+-- the list and its tail; a further entry, and the rest
+abbrev pub Listed : {A B : Type 0} → ℕ → (Token → Bool) → Phrase A → (List A → Phrase B) → List A → Phrase B
+Listed limit sep P Q before = Then (Further limit (Sep sep) (λ _. P) before) Q
+
+abbrev Entered : {A B : Type 0} → ℕ → (Token → Bool) → Phrase A → (List A → Phrase B) → List A → Token → Phrase B
+Entered limit sep P Q before s = Then (SomeOf (Entry limit (Sep sep) (λ _. P) before) s) Q
+
+abbrev MoreThen : {A B : Type 0} → ℕ → (Token → Bool) → Phrase A → (List A → Phrase B) → List A → ℕ → A → Phrase B
+MoreThen limit sep P Q before n a d g next = More limit (Sep sep) (λ _. P) before n a d g (λ l. Q l d g next)
+
+module _ {A B : Type 0} (limit : ℕ) (sep : Token → Bool) (P : Phrase A) (Q : List A → Phrase B) (before : List A) where
+  listed_to : (s : Token) (C : Phrase B) (b : B) → Same (Tailed sep b C) (Q before) → (d : ℕ) (g : Gate) (next : Next B) (ts : List Token) → Tailed sep b (Or C (Entered limit sep P Q before s)) d g next ts → Listed limit sep P Q before d g next ts
+  unfolding IsMore
+  listed_to s C b same d g next [] h = elim h [ inl none ↦ (0, same.to d g next [] (inl none)) | inr bad ↦ absurd bad ]
+  listed_to s C b same d g next (t ∷ ts) h = elim h [
+    | inl none ↦ (0, same.to d g next (t ∷ ts) (inl none))
+    | inr on ↦ elim on.1 [ inl other ↦ (0, same.to d g next (t ∷ ts) (inr (on.0, other))) | inr entry ↦ (suc entry.0, (on.0, entry.1)) ]
+  ]
+
+  listed_from : (s : Token) (C : Phrase B) (b : B) → Same (Tailed sep b C) (Q before) → (d : ℕ) (g : Gate) (next : Next B) (ts : List Token) (n : ℕ) → IsMore g limit (Is sep) (λ _. P d g) n before (λ l. Q l d g next) ts
+      → Tailed sep b (Or C (Entered limit sep P Q before s)) d g next ts
+  unfolding IsMore
+  listed_from s C b same d g next [] zero h = elim (same.from d g next [] h) [ inl none ↦ inl none | inr bad ↦ absurd bad ]
+  listed_from s C b same d g next (t ∷ ts) zero h = elim (same.from d g next (t ∷ ts) h) [ inl none ↦ inl none | inr on ↦ inr (on.0, inl on.1) ]
+  listed_from s C b same d g next [] (suc n) h = absurd h
+  listed_from s C b same d g next (t ∷ ts) (suc n) h = inr (h.0, inr (n, h.1))
+
+  listed_same : (s : Token) (C : Phrase B) (b : B) → Same (Tailed sep b C) (Q before) → Same (Tailed sep b (Or C (Entered limit sep P Q before s))) (Listed limit sep P Q before)
+  listed_same s C b same = record { to = listed_to s C b same; from = λ d g next ts h. listed_from s C b same d g next ts h.0 h.1 }
+
+  entered_same : (s : Token) → length before < limit → Same (ThenSome P (MoreThen limit sep P Q before)) (Entered limit sep P Q before s)
+  entered_same s lt = record { to = λ d g next ts h. (h.0, (λ le. absurd (omega arith), h.1)); from = λ d g next ts h. (h.0, h.1.1) }
+
+  entered_able : (s : Token) {d : ℕ} {tail : List Token} → ((l : List A) → Able (Q l) d) → Began P d [] tail → Began (Entered limit sep P Q before s) d [] tail
+  entered_able s {d} {tail} able b = then_began able (entry_began limit (Sep sep) (λ _. P) before s d tail b)
+
+  listed_able : (d : ℕ) → ((l : List A) → Able (Q l) d) → Able (Listed limit sep P Q before) d
+  listed_able d able = then_began able (further_able limit (Sep sep) (λ _. P) before d)
+
+-- What a list's reader needs, where such a tail follows it: an entry begins with a token of `starts`, and the tail after its separator with none.
 pub record Entries {A B : Type 0} (S SP : Token → Type 0) (sep starts : Token → Bool) (F : Token → Type 0) (P : Phrase A) (Q : List A → Phrase B) (d : ℕ) (p : List Token → Read A) (q : List A × List Token → Read B) : Type 1 where
   pub reads : Reader SP P d p
   pub first : BeginsWith P (λ t. starts t ≡ true)
@@ -123,151 +165,103 @@ pub record Entries {A B : Type 0} (S SP : Token → Type 0) (sep starts : Token 
   pub within : (t : Token) → SP t → S t
   pub unlike : (t : Token) → SP t → sep t ≡ true → ⊥
 
-abbrev Sep : (Token → Bool) → Phrase Token
-Sep sep _ _ = Is sep
+module _ {A B : Type 0} (S SP : Token → Type 0) (sep starts : Token → Bool) (F : Token → Type 0) (P : Phrase A) (Q : List A → Phrase B) (limit d : ℕ) (p : List Token → Read A) (q : List A × List Token → Read B)
+    (k : Entries S SP sep starts F P Q d p q) where
+  -- an entry past the limit, where one begins
+  past_entry : (before : List A) (s : Token) → limit ≤ length before → (us : List Token) → sees starts us ≡ true → Law S (Entered limit sep P Q before s) d us (Err (too_many (place_of us)))
+  past_entry before s le [] e = absurd (let bad : false ≡ true = e in cc)
+  past_entry before s le (t ∷ us) e = record {
+    front = [];
+    rest = t ∷ us;
+    is = refl;
+    fault = record {
+      cause = longer;
+      place = refl;
+      dead = λ d' g next w where' avoids heads h. where' w (omega arith) (h.1.0 le);
+      viable = entered_able limit sep P Q before s k.able k.reads.able;
+      goes = record { token = t; others = us; is = refl; began = entered_able limit sep P Q before s k.able (k.began t e) };
+    };
+  }
 
--- a further entry, and the rest
-abbrev Entered : {A B : Type 0} → ℕ → (Token → Bool) → Phrase A → (List A → Phrase B) → List A → Token → Phrase B
-Entered limit sep P Q before s = Then (SomeOf (Entry limit (Sep sep) (λ _. P) before) s) Q
+  -- no token that may not follow an entry begins what follows it
+  listed_clear : (before : List A) (n : ℕ) (a : A) (d' : ℕ) (g : Gate) (next : Next B) → Avoids S next → (t : Token) (ts : List Token) → SP t → MoreThen limit sep P Q before n a d' g next (t ∷ ts) → ⊥
+  unfolding IsMore
+  listed_clear before zero a d' g next avoids t ts s h = elim ((k.tails (before ++ a ∷ [])).same.from d' g next (t ∷ ts) h) [ inl none ↦ avoids _ t ts (k.within t s) none | inr on ↦ k.unlike t s on.0 ]
+  listed_clear before (suc n) a d' g next avoids t ts s h = k.unlike t s h.0
 
-abbrev MoreThen : {A B : Type 0} → ℕ → (Token → Bool) → Phrase A → (List A → Phrase B) → List A → ℕ → A → Phrase B
-MoreThen limit sep P Q before n a d g next = More limit (Sep sep) (λ _. P) before n a d g (λ l. Q l d g next)
+  -- the list that goes on after an entry is read
+  abbrev GoesOnRight : List A → List Token → (A × List Token → Read B) → Type 1
+  GoesOnRight before us r = (a : A) (rest : List Token) → length rest ≤ length us → Law S (Listed limit sep P Q (before ++ a ∷ [])) d rest (r (a, rest))
 
-abbrev pub Listed : {A B : Type 0} → ℕ → (Token → Bool) → Phrase A → (List A → Phrase B) → List A → Phrase B
-Listed limit sep P Q before = Then (Further limit (Sep sep) (λ _. P) before) Q
+  -- an entry and the rest, where one begins
+  entered_law : (before : List A) (s : Token) (us : List Token) → sees starts us ≡ true → (r : A × List Token → Read B) → GoesOnRight before us r → Law S (Entered limit sep P Q before s) d us (limited_at (nat_le limit (length before)) p us >>= r)
+  entered_law before s us e r law =
+      elim (nat_le limit (length before)) as (λ b. nat_le limit (length before) ≡ b → Law S (Entered limit sep P Q before s) d us (limited_at b p us >>= r)) [
+        | true ↦ λ f. past_entry before s (past limit (length before) f) us e
+        | false ↦ λ f. same_law S _ _ d us (p us >>= r) (entered_same limit sep P Q before s (not_past limit (length before) f))
+            (some_law S SP P (MoreThen limit sep P Q before) d us (p us) r (k.reads.law us)
+            (λ a rest er. law a rest (no_longer us (a, rest) (rw er at (k.reads.law us))))
+            (λ a. listed_able limit sep P Q (before ++ a ∷ []) d k.able)
+            (λ a d' g next avoids t ts st h. listed_clear before h.0 a d' g next avoids t ts st h.1))
+      ] refl
 
-listed_to : {A B : Type 0} (limit : ℕ) (sep : Token → Bool) (P : Phrase A) (Q : List A → Phrase B) (before : List A) (s : Token) (C : Phrase B) (b : B) → Same (Tailed sep b C) (Q before)
-    → (d : ℕ) (g : Gate) (next : Next B) (ts : List Token) → Tailed sep b (Or C (Entered limit sep P Q before s)) d g next ts → Listed limit sep P Q before d g next ts
-unfolding IsMore
-listed_to limit sep P Q before s C b same d g next [] h = elim h [ inl none ↦ (0, same.to d g next [] (inl none)) | inr bad ↦ absurd bad ]
-listed_to limit sep P Q before s C b same d g next (t ∷ ts) h = elim h [
-  | inl none ↦ (0, same.to d g next (t ∷ ts) (inl none))
-  | inr on ↦ elim on.1 [ inl other ↦ (0, same.to d g next (t ∷ ts) (inr (on.0, other))) | inr entry ↦ (suc entry.0, (on.0, entry.1)) ]
-]
+  -- what is read after the separator
+  after_law : (before : List A) (s : Token) (us : List Token) (r : A × List Token → Read B) → GoesOnRight before us r
+      → Law S (Or (k.tails before).After (Entered limit sep P Q before s)) d us (if sees starts us then (limited_at (nat_le limit (length before)) p us >>= r) else (k.tails before).after us)
+  after_law before s us r law =
+      let tail = k.tails before in
+      elim (sees starts us) as (λ b. sees starts us ≡ b → Law S (Or tail.After (Entered limit sep P Q before s)) d us (if b then (limited_at (nat_le limit (length before)) p us >>= r) else tail.after us)) [
+        | true ↦ λ e. second_law S tail.After (Entered limit sep P Q before s) d us _ (bars S tail.After F starts tail.begins (λ t st f. k.apart t f st) us e) (entered_law before s us e r law)
+        | false ↦ λ e. first_law S tail.After (Entered limit sep P Q before s) d us _ (none_other S _ (λ t. starts t ≡ true) starts (λ d g next w h. k.first d g _ w h.1.1) (λ t st. st) us e) (tail.reads.law us)
+      ] refl
 
-listed_from : {A B : Type 0} (limit : ℕ) (sep : Token → Bool) (P : Phrase A) (Q : List A → Phrase B) (before : List A) (s : Token) (C : Phrase B) (b : B) → Same (Tailed sep b C) (Q before)
-    → (d : ℕ) (g : Gate) (next : Next B) (ts : List Token) (n : ℕ) → IsMore g limit (Is sep) (λ _. P d g) n before (λ l. Q l d g next) ts → Tailed sep b (Or C (Entered limit sep P Q before s)) d g next ts
-unfolding IsMore
-listed_from limit sep P Q before s C b same d g next [] zero h = elim (same.from d g next [] h) [ inl none ↦ inl none | inr bad ↦ absurd bad ]
-listed_from limit sep P Q before s C b same d g next (t ∷ ts) zero h = elim (same.from d g next (t ∷ ts) h) [ inl none ↦ inl none | inr on ↦ inr (on.0, inl on.1) ]
-listed_from limit sep P Q before s C b same d g next [] (suc n) h = absurd h
-listed_from limit sep P Q before s C b same d g next (t ∷ ts) (suc n) h = inr (h.0, inr (n, h.1))
+  while_read : (m : ℕ) (before : List A) (t : Token) (us : List Token) (after : List Token → Read B) (b : B) → q (before, t ∷ us) ≡ (if sep t then after us else Ok (b, t ∷ us))
+      → (more_while sep starts p limit (suc m) before (t ∷ us) >>= q)
+      ≡ (if sep t then (if sees starts us then (limited_at (nat_le limit (length before)) p us >>= λ a. more_while sep starts p limit m (before ++ a.0 ∷ []) a.1 >>= q) else after us) else Ok (b, t ∷ us))
+  unfolding more_while
+  while_read m before t us after b e = of (sep t) (sees starts us) e
+    where
+      bound : (r : Read A) → ((r >>= λ a. more_while sep starts p limit m (before ++ a.0 ∷ []) a.1) >>= q) ≡ (r >>= λ a. more_while sep starts p limit m (before ++ a.0 ∷ []) a.1 >>= q)
+      bound (Ok x) = refl
+      bound (Err stop) = refl
 
-listed_same : {A B : Type 0} (limit : ℕ) (sep : Token → Bool) (P : Phrase A) (Q : List A → Phrase B) (before : List A) (s : Token) (C : Phrase B) (b : B) → Same (Tailed sep b C) (Q before)
-    → Same (Tailed sep b (Or C (Entered limit sep P Q before s))) (Listed limit sep P Q before)
-listed_same limit sep P Q before s C b same = record {
-  to = listed_to limit sep P Q before s C b same;
-  from = λ d g next ts h. listed_from limit sep P Q before s C b same d g next ts h.0 h.1;
-}
+      of : (x y : Bool) → q (before, t ∷ us) ≡ (if x then after us else Ok (b, t ∷ us))
+          → ((if x && y then (limited_at (nat_le limit (length before)) p us >>= λ a. more_while sep starts p limit m (before ++ a.0 ∷ []) a.1) else Ok (before, t ∷ us)) >>= q)
+          ≡ (if x then (if y then (limited_at (nat_le limit (length before)) p us >>= λ a. more_while sep starts p limit m (before ++ a.0 ∷ []) a.1 >>= q) else after us) else Ok (b, t ∷ us))
+      of true true e = bound (limited_at (nat_le limit (length before)) p us)
+      of true false e = e
+      of false y e = e
 
-entered_same : {A B : Type 0} (limit : ℕ) (sep : Token → Bool) (P : Phrase A) (Q : List A → Phrase B) (before : List A) (s : Token) → length before < limit → Same (ThenSome P (MoreThen limit sep P Q before)) (Entered limit sep P Q before s)
-entered_same limit sep P Q before s lt = record { to = λ d g next ts h. (h.0, (λ le. absurd (omega arith), h.1)); from = λ d g next ts h. (h.0, h.1.1) }
+  -- the list and its tail
+  listed_law : (m : ℕ) (before : List A) (ts : List Token) → length ts ≤ m → Law S (Listed limit sep P Q before) d ts (more_while sep starts p limit m before ts >>= q)
+  listed_law m before [] le =
+      let tail = k.tails before in
+      let s : Token = record { kind = kind.End; slice = []; at = 0 } in
+      rw (while_stops sep starts p limit m before [] refl, tail.read [])
+      (same_law S _ _ d [] (Ok (tail.value, [])) (listed_same limit sep P Q before s tail.After tail.value tail.same)
+      (first_law S (Only tail.value) (Then (Sep sep) (λ _. Or tail.After (Entered limit sep P Q before s))) d [] (Ok (tail.value, [])) (λ d' g next w avoids heads h. not_seen sep [] w _ refl heads h) ((pure_reader S d tail.value).law [])))
+  listed_law zero before (t ∷ us) le = absurd (omega arith)
+  listed_law (suc m) before (t ∷ us) le =
+      let tail = k.tails before in
+      let r : A × List Token → Read B = λ a. more_while sep starts p limit m (before ++ a.0 ∷ []) a.1 >>= q in
+      let after : Read B = if sees starts us then (limited_at (nat_le limit (length before)) p us >>= r) else tail.after us in
+      let split = listed_same limit sep P Q before t tail.After tail.value tail.same in
+      let Behind = Or tail.After (Entered limit sep P Q before t) in
+      rw (while_read m before t us tail.after tail.value (tail.read (t ∷ us)))
+      (elim (sep t) as (λ b. sep t ≡ b → Law S (Listed limit sep P Q before) d (t ∷ us) (if b then after else Ok (tail.value, t ∷ us))) [
+        | true ↦ λ e. same_law S _ _ d (t ∷ us) after split
+            (second_law S (Only tail.value) (Then (Sep sep) (λ _. Behind)) d (t ∷ us) after (λ d' g next w avoids heads h. seen_head S sep (t ∷ us) w next tail.value e k.ends avoids heads h)
+            (seen_law S sep t us e Behind d after (first_began tail.After (Entered limit sep P Q before t) tail.reads.able)
+            (after_law before t us r (λ a rest shorter. listed_law m (before ++ a ∷ []) rest (omega arith)))))
+        | false ↦ λ e. same_law S _ _ d (t ∷ us) (Ok (tail.value, t ∷ us)) split
+            (first_law S (Only tail.value) (Then (Sep sep) (λ _. Behind)) d (t ∷ us) (Ok (tail.value, t ∷ us)) (λ d' g next w avoids heads h. not_seen sep (t ∷ us) w _ e heads h) ((pure_reader S d tail.value).law (t ∷ us)))
+      ] refl)
 
-entered_begins : {A B : Type 0} (limit : ℕ) (sep starts : Token → Bool) (P : Phrase A) (Q : List A → Phrase B) (before : List A) (s : Token) → BeginsWith P (λ t. starts t ≡ true) → BeginsWith (Entered limit sep P Q before s) (λ t. starts t ≡ true)
-entered_begins limit sep starts P Q before s first d g next w h = first d g _ w h.1.1
-
-entered_able : {A B : Type 0} (limit : ℕ) (sep : Token → Bool) (P : Phrase A) (Q : List A → Phrase B) (before : List A) (s : Token) {d : ℕ} {tail : List Token} → ((l : List A) → Able (Q l) d)
-    → Began P d [] tail → Began (Entered limit sep P Q before s) d [] tail
-entered_able limit sep P Q before s {d} {tail} able b = then_began able (entry_began limit (Sep sep) (λ _. P) before s d tail b)
-
--- an entry past the limit, where one begins
-past_entry : {A B : Type 0} (S SP : Token → Type 0) (sep starts : Token → Bool) (F : Token → Type 0) (P : Phrase A) (Q : List A → Phrase B) (limit d : ℕ) (p : List Token → Read A) (q : List A × List Token → Read B)
-    → Entries S SP sep starts F P Q d p q → (before : List A) (s : Token) → limit ≤ length before → (us : List Token) → sees starts us ≡ true → Law S (Entered limit sep P Q before s) d us (Err (too_many (place_of us)))
-past_entry S SP sep starts F P Q limit d p q k before s le [] e = absurd (let bad : false ≡ true = e in cc)
-past_entry S SP sep starts F P Q limit d p q k before s le (t ∷ us) e = record {
-  front = [];
-  rest = t ∷ us;
-  is = refl;
-  fault = record {
-    cause = longer;
-    place = refl;
-    dead = λ d' g next w where' avoids heads h. where' w (omega arith) (h.1.0 le);
-    viable = entered_able limit sep P Q before s k.able k.reads.able;
-    goes = record { token = t; others = us; is = refl; began = entered_able limit sep P Q before s k.able (k.began t e) };
-  };
-}
-
-listed_able : {A B : Type 0} (limit : ℕ) (sep : Token → Bool) (P : Phrase A) (Q : List A → Phrase B) (before : List A) (d : ℕ) → ((l : List A) → Able (Q l) d) → Able (Listed limit sep P Q before) d
-listed_able limit sep P Q before d able = then_began able (further_able limit (Sep sep) (λ _. P) before d)
-
--- no token that may not follow an entry begins what follows it
-listed_clear : {A B : Type 0} (S SP : Token → Type 0) (sep starts : Token → Bool) (F : Token → Type 0) (P : Phrase A) (Q : List A → Phrase B) (limit d : ℕ) (p : List Token → Read A) (q : List A × List Token → Read B)
-    → Entries S SP sep starts F P Q d p q → (before : List A) (n : ℕ) (a : A) (d' : ℕ) (g : Gate) (next : Next B) → Avoids S next → (t : Token) (ts : List Token) → SP t → MoreThen limit sep P Q before n a d' g next (t ∷ ts) → ⊥
-unfolding IsMore
-listed_clear S SP sep starts F P Q limit d p q k before zero a d' g next avoids t ts s h =
-    elim ((k.tails (before ++ a ∷ [])).same.from d' g next (t ∷ ts) h) [ inl none ↦ avoids _ t ts (k.within t s) none | inr on ↦ k.unlike t s on.0 ]
-listed_clear S SP sep starts F P Q limit d p q k before (suc n) a d' g next avoids t ts s h = k.unlike t s h.0
-
--- an entry and the rest, where one begins
-entered_law : {A B : Type 0} (S SP : Token → Type 0) (sep starts : Token → Bool) (F : Token → Type 0) (P : Phrase A) (Q : List A → Phrase B) (limit d : ℕ) (p : List Token → Read A) (q : List A × List Token → Read B)
-    → Entries S SP sep starts F P Q d p q → (before : List A) (s : Token) (us : List Token) → sees starts us ≡ true → (r : A × List Token → Read B)
-    → ((a : A) (rest : List Token) → length rest ≤ length us → Law S (Listed limit sep P Q (before ++ a ∷ [])) d rest (r (a, rest)))
-    → Law S (Entered limit sep P Q before s) d us (limited_at (nat_le limit (length before)) p us >>= r)
-entered_law S SP sep starts F P Q limit d p q k before s us e r law =
-    elim (nat_le limit (length before)) as (λ b. nat_le limit (length before) ≡ b → Law S (Entered limit sep P Q before s) d us (limited_at b p us >>= r)) [
-      | true ↦ λ f. past_entry S SP sep starts F P Q limit d p q k before s (past limit (length before) f) us e
-      | false ↦ λ f. same_law S _ _ d us (p us >>= r) (entered_same limit sep P Q before s (not_past limit (length before) f))
-          (some_law S SP P (MoreThen limit sep P Q before) d us (p us) r (k.reads.law us)
-          (λ a rest er. law a rest (no_longer us (a, rest) (rw er at (k.reads.law us))))
-          (λ a. listed_able limit sep P Q (before ++ a ∷ []) d k.able)
-          (λ a d' g next avoids t ts st h. listed_clear S SP sep starts F P Q limit d p q k before h.0 a d' g next avoids t ts st h.1))
-    ] refl
-
--- what is read after the separator
-after_law : {A B : Type 0} (S SP : Token → Type 0) (sep starts : Token → Bool) (F : Token → Type 0) (P : Phrase A) (Q : List A → Phrase B) (limit d : ℕ) (p : List Token → Read A) (q : List A × List Token → Read B)
-    → (k : Entries S SP sep starts F P Q d p q) (before : List A) (s : Token) (us : List Token) (r : A × List Token → Read B)
-    → ((a : A) (rest : List Token) → length rest ≤ length us → Law S (Listed limit sep P Q (before ++ a ∷ [])) d rest (r (a, rest)))
-    → Law S (Or (k.tails before).After (Entered limit sep P Q before s)) d us (if sees starts us then (limited_at (nat_le limit (length before)) p us >>= r) else (k.tails before).after us)
-after_law S SP sep starts F P Q limit d p q k before s us r law =
-    let tail = k.tails before in
-    elim (sees starts us) as (λ b. sees starts us ≡ b → Law S (Or tail.After (Entered limit sep P Q before s)) d us (if b then (limited_at (nat_le limit (length before)) p us >>= r) else tail.after us)) [
-      | true ↦ λ e. second_law S tail.After (Entered limit sep P Q before s) d us _ (bars S tail.After F starts tail.begins (λ t st f. k.apart t f st) us e) (entered_law S SP sep starts F P Q limit d p q k before s us e r law)
-      | false ↦ λ e. first_law S tail.After (Entered limit sep P Q before s) d us _ (none_other S _ (λ t. starts t ≡ true) starts (entered_begins limit sep starts P Q before s k.first) (λ t st. st) us e) (tail.reads.law us)
-    ] refl
-
-while_read : {A B : Type 0} (sep starts : Token → Bool) (p : List Token → Read A) (q : List A × List Token → Read B) (limit m : ℕ) (before : List A) (t : Token) (us : List Token) (after : List Token → Read B) (b : B)
-    → q (before, t ∷ us) ≡ (if sep t then after us else Ok (b, t ∷ us))
-    → (more_while sep starts p limit (suc m) before (t ∷ us) >>= q)
-    ≡ (if sep t then (if sees starts us then (limited_at (nat_le limit (length before)) p us >>= λ a. more_while sep starts p limit m (before ++ a.0 ∷ []) a.1 >>= q) else after us) else Ok (b, t ∷ us))
-unfolding more_while
-while_read {A} {B} sep starts p q limit m before t us after b e = of (sep t) (sees starts us) e
-  where
-    rest : A × List Token → Read (List A)
-    rest a = more_while sep starts p limit m (before ++ a.0 ∷ []) a.1
-
-    bound : (r : Read A) → ((r >>= λ a. more_while sep starts p limit m (before ++ a.0 ∷ []) a.1) >>= q) ≡ (r >>= λ a. more_while sep starts p limit m (before ++ a.0 ∷ []) a.1 >>= q)
-    bound (Ok x) = refl
-    bound (Err stop) = refl
-
-    of : (x y : Bool) → q (before, t ∷ us) ≡ (if x then after us else Ok (b, t ∷ us))
-        → ((if x && y then (limited_at (nat_le limit (length before)) p us >>= λ a. more_while sep starts p limit m (before ++ a.0 ∷ []) a.1) else Ok (before, t ∷ us)) >>= q)
-        ≡ (if x then (if y then (limited_at (nat_le limit (length before)) p us >>= λ a. more_while sep starts p limit m (before ++ a.0 ∷ []) a.1 >>= q) else after us) else Ok (b, t ∷ us))
-    of true true e = bound (limited_at (nat_le limit (length before)) p us)
-    of true false e = e
-    of false y e = e
-
--- the list and its tail
-pub listed_law : {A B : Type 0} (S SP : Token → Type 0) (sep starts : Token → Bool) (F : Token → Type 0) (P : Phrase A) (Q : List A → Phrase B) (limit d : ℕ) (p : List Token → Read A) (q : List A × List Token → Read B)
-    → Entries S SP sep starts F P Q d p q → (m : ℕ) (before : List A) (ts : List Token) → length ts ≤ m → Law S (Listed limit sep P Q before) d ts (more_while sep starts p limit m before ts >>= q)
-listed_law S SP sep starts F P Q limit d p q k m before [] le =
-    let tail = k.tails before in
-    let s : Token = record { kind = kind.End; slice = []; at = 0 } in
-    rw (while_stops sep starts p limit m before [] refl, tail.read [])
-    (same_law S _ _ d [] (Ok (tail.value, [])) (listed_same limit sep P Q before s tail.After tail.value tail.same)
-    (first_law S (Only tail.value) (Then (Sep sep) (λ _. Or tail.After (Entered limit sep P Q before s))) d [] (Ok (tail.value, [])) (λ d' g next w avoids heads h. not_seen sep [] w _ refl heads h) ((pure_reader S d tail.value).law [])))
-listed_law S SP sep starts F P Q limit d p q k zero before (t ∷ us) le = absurd (omega arith)
-listed_law {A} {B} S SP sep starts F P Q limit d p q k (suc m) before (t ∷ us) le =
-    let tail = k.tails before in
-    let r : A × List Token → Read B = λ a. more_while sep starts p limit m (before ++ a.0 ∷ []) a.1 >>= q in
-    let after : Read B = if sees starts us then (limited_at (nat_le limit (length before)) p us >>= r) else tail.after us in
-    let split = listed_same limit sep P Q before t tail.After tail.value tail.same in
-    let Behind = Or tail.After (Entered limit sep P Q before t) in
-    rw (while_read sep starts p q limit m before t us tail.after tail.value (tail.read (t ∷ us)))
-    (elim (sep t) as (λ b. sep t ≡ b → Law S (Listed limit sep P Q before) d (t ∷ us) (if b then after else Ok (tail.value, t ∷ us))) [
-      | true ↦ λ e. same_law S _ _ d (t ∷ us) after split
-          (second_law S (Only tail.value) (Then (Sep sep) (λ _. Behind)) d (t ∷ us) after (λ d' g next w avoids heads h. seen_head S sep (t ∷ us) w next tail.value e k.ends avoids heads h)
-          (seen_law S sep t us e Behind d after (first_began tail.After (Entered limit sep P Q before t) tail.reads.able)
-          (after_law S SP sep starts F P Q limit d p q k before t us r (λ a rest shorter. listed_law S SP sep starts F P Q limit d p q k m (before ++ a ∷ []) rest (omega arith)))))
-      | false ↦ λ e. same_law S _ _ d (t ∷ us) (Ok (tail.value, t ∷ us)) split
-          (first_law S (Only tail.value) (Then (Sep sep) (λ _. Behind)) d (t ∷ us) (Ok (tail.value, t ∷ us)) (λ d' g next w avoids heads h. not_seen sep (t ∷ us) w _ e heads h) ((pure_reader S d tail.value).law (t ∷ us)))
-    ] refl)
+  -- the list from its first entry, which may have a form of its own
+  pub listed_reader : (P₀ : Phrase A) (p₀ : List Token → Read A) → Reader SP P₀ d p₀ → Reader S (Then P₀ (λ a. Listed limit sep P Q (a ∷ []))) d (λ ts. p₀ ts >>= λ a. more_while sep starts p limit (length a.1) (a.0 ∷ []) a.1 >>= q)
+  listed_reader P₀ p₀ first = record {
+    law = λ ts. then_law S SP P₀ (λ a. Listed limit sep P Q (a ∷ [])) d ts (p₀ ts) (λ a. more_while sep starts p limit (length a.1) (a.0 ∷ []) a.1 >>= q) (first.law ts)
+        (λ a r e. listed_law (length r) (a ∷ []) r (omega arith)) (λ a. listed_able limit sep P Q (a ∷ []) d k.able)
+        (λ a d' g next avoids t ts s h. listed_clear [] h.0 a d' g next avoids t ts s h.1);
+    able = then_began {Q = λ a. Listed limit sep P Q (a ∷ [])} (λ a. listed_able limit sep P Q (a ∷ []) d k.able) first.able;
+  }

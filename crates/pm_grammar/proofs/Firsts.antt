@@ -1,15 +1,16 @@
 -- What the first token of a phrase says.
-use Rattle.std.proofs.Common.{◌≡◌, ℕ, Bool, true, false, List, [], ◌∷◌, Ok, Err, refl, sym, ap, rules}
+use Rattle.std.proofs.Common.{◌≡◌, ℕ, Bool, true, false, List, [], ◌∷◌, sym, rules}
 use denote.Enum.Bare.{same_true}
 use Rattle.pm_lexer.specs.contracts.symbol.Symbol.{the_type}
 use Rattle.pm_lexer.specs.declared.token.Token.{Token}
 use Rattle.pm_lexer.specs.declared.symbol.Symbol.{Symbol}
 use Rattle.pm_lexer.specs.Symbol.{symbol_of, same_symbol, is}
 use Rattle.pm_grammar.specs.Language.{Gate, Is}
-use Rattle.pm_grammar.specs.Reading.{Read, sees, token_at}
-use Rattle.pm_grammar.proofs.Phrases.{Phrase, Next, Law, Able, Nothing, NotOther, open_behind}
-use Rattle.pm_grammar.proofs.Readers.{Then, then_law, then_began, token_able, not_seen}
+use Rattle.pm_grammar.specs.Reading.{sees, token_at}
+use Rattle.pm_grammar.proofs.Phrases.{Phrase, Next, Able, NotOther, open_behind}
+use Rattle.pm_grammar.proofs.Readers.{Then, then_began, token_able, not_seen}
 use Rattle.pm_grammar.proofs.Lists.{Peek}
+pub use Rattle.pm_grammar.proofs.Furthers.{seen_law}
 use Rattle.pm_grammar.proofs.Furthers.{token_peek}
 
 -- no token is two symbols
@@ -33,20 +34,6 @@ pub bars : {A : Type 0} (S : Token → Type 0) (P : Phrase A) (F : Token → Typ
 bars S P F test begins none [] e d g next w avoids heads h = absurd (let bad : false ≡ true = e in cc)
 bars S P F test begins none (t ∷ ts) e d g next [] avoids heads h = heads
 bars S P F test begins none (t ∷ ts) e d g next (u ∷ us) avoids heads h = none u (rw (sym heads) at e) (begins d g next (u ∷ us) h)
-
--- behind a token that was seen
-pub seen_law : {A : Type 0} (S : Token → Type 0) (test : Token → Bool) (t : Token) (us : List Token) → test t ≡ true → (P : Phrase A) (d : ℕ) (r : Read A) → Able P d → Law S P d us r → Law S (Then (λ _ _. Is test) (λ _. P)) d (t ∷ us) r
-seen_law S test t us e P d r able l =
-    then_law S Nothing (λ _ _. Is test) (λ _. P) d (t ∷ us) (Ok (t, us)) (λ _. r)
-    (record { front = t ∷ []; is = refl; took = record { keeps = λ d' g next w le h. (e, h); only = λ d' g next w avoids heads h. h.1 } })
-    (λ a rest i. let same : us ≡ rest = rest_same rest a i in rw same at l) (λ _. able) (λ a d' g next avoids u ts s h. s)
-  where
-    behind : Read Token → List Token
-    behind (Ok x) = x.1
-    behind (Err e) = []
-
-    rest_same : (rest : List Token) (a : Token) → (let x : Read Token = Ok (t, us) in x) ≡ Ok (a, rest) → us ≡ rest
-    rest_same rest a i = ap behind i
 
 -- what the first token of a phrase says, where the phrase is a token and what stands behind it
 pub first_peek : {A : Type 0} (S : Token → Type 0) (test : Token → Bool) (t₀ : Token) → test t₀ ≡ true → (Q : Token → Phrase A) (d : ℕ) → ((t : Token) → Able (Q t) d) → Peek S (Then (λ _ _. Is test) Q) d (token_at test)

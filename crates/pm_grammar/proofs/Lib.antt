@@ -13,3 +13,4 @@ pub mod Helpers
 pub mod Symbols
 pub mod Clauses
 pub mod Productions
+pub mod Yields

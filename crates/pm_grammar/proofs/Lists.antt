@@ -1,76 +1,11 @@
 -- Readers of lists, and of choices by the first token.
-use Rattle.std.proofs.Common.{◌≡◌, ◌≤◌, ◌<◌, ◌+◌, ℕ, zero, suc, List, [], ◌∷◌, ◌++◌, length, Ok, Err, refl, inl, inr, arith, append_assoc}
+use Rattle.std.proofs.Common.{◌≡◌, ◌≤◌, ◌<◌, ℕ, zero, suc, List, [], ◌∷◌, ◌++◌, length, Ok, Err, refl, inl, inr, arith}
 use Rattle.pm_lexer.specs.declared.token.Token.{Token}
 use Rattle.pm_grammar.specs.Language.{Gate, Within, IsMore, IsFurther}
 use Rattle.pm_grammar.specs.Reading.{Stop, too_many, Read, ◌>>=◌, place_of}
-use Rattle.pm_grammar.proofs.Phrases.{Phrase, Next, Avoids, Heads, heads_under, Took, Able, Began, GoesOn, longer, Fault, Taken, Law, Open, open_behind, weaker_began, moved, fault_moved}
-use Rattle.pm_grammar.proofs.Readers.{Clear, Or, Same}
-
--- A phrase, and then one of several languages, which is chosen before the phrase.
-abbrev pub Some : {A B I : Type 0} → (I → A → Phrase B) → A → Phrase B
-Some {A} {B} {I} R a d g next ts = (i : I) × R i a d g next ts
-
-abbrev pub ThenSome : {A B I : Type 0} → Phrase A → (I → A → Phrase B) → Phrase B
-ThenSome {A} {B} {I} P R d g next ts = (i : I) × P d g (λ a. R i a d g next) ts
-
-some_after : {A B I : Type 0} {SP : Token → Type 0} {P : Phrase A} (R : I → A → Phrase B) {d : ℕ} {front rest : List Token} {a : A} (e : ℕ) (second tail : List Token)
-    → Took SP P d front rest a → d ≤ e → Began (Some R a) e second tail → Began (ThenSome P R) e (front ++ second) tail
-some_after {A} {B} {I} {SP} {P} R {d} {front} {rest} {a} e second tail took le v = record {
-  more = v.more;
-  value = v.value;
-  ends = λ d' g next w h o n. let r = v.ends d' g next w h o n in (r.0, rw append_assoc (took.keeps d' g (λ x. R r.0 x d' g next) (second ++ (tail ++ (v.more ++ w))) (omega arith) r.1));
-}
-
-some_began : {A B I : Type 0} {P : Phrase A} (R : I → A → Phrase B) {d : ℕ} {front tail : List Token} → ((a : A) → Able (Some R a) d) → Began P d front tail → Began (ThenSome P R) d front tail
-some_began {A} {B} {I} {P} R {d} {front} {tail} q v = record {
-  more = v.more ++ (q v.value).more;
-  value = (q v.value).value;
-  ends = λ d' g next w le o h.
-      let o' : Open g (tail ++ (v.more ++ ((q v.value).more ++ w))) = rw append_assoc at o in
-      let r = (q v.value).ends d' g next w le (open_behind g v.more _ (open_behind g tail _ o')) h in
-      (r.0, rw append_assoc (v.ends d' g (λ a. R r.0 a d' g next) ((q v.value).more ++ w) le o' r.1));
-}
-
-some_dead : {A B I : Type 0} (S SP : Token → Type 0) (P : Phrase A) (R : I → A → Phrase B) {d : ℕ} {front rest : List Token} {a : A} → Took SP P d front rest a → Clear SP S (Some R)
-    → (second others : List Token) → rest ≡ second ++ others → (d' : ℕ) (g : Gate) (next : Next B) (w : List Token) → Avoids S next → Heads others w → ThenSome P R d' g next ((front ++ second) ++ w) → Some R a d' g next (second ++ w)
-some_dead {A} {B} {I} S SP P R {d} {front} {rest} {a} took clear second others is d' g next w avoids heads h =
-    (h.0, took.only d' g (λ x. R h.0 x d' g next) (second ++ w) (λ x t ts s q. clear x d' g next avoids t ts s (h.0, q)) (rw is (heads_under second others w heads)) (rw append_assoc at h.1))
-
-joined : (ts front rest second others : List Token) → ts ≡ front ++ rest → rest ≡ second ++ others → ts ≡ (front ++ second) ++ others
-joined ts front rest second others e f = rw (e, f, append_assoc) refl
-
-some_after_law : {A B I : Type 0} (S SP : Token → Type 0) (P : Phrase A) (R : I → A → Phrase B) {d : ℕ} {ts : List Token} (x : A × List Token) (r : Read B) → Taken SP P d ts x → Clear SP S (Some R)
-    → Law S (Some R x.0) d x.1 r → Law S (ThenSome P R) d ts r
-some_after_law {A} {B} {I} S SP P R {d} {ts} x (Ok y) t clear l = record {
-  front = t.front ++ l.front;
-  is = joined ts t.front x.1 l.front y.1 t.is l.is;
-  took = record {
-    keeps = λ d' g next w le h. let r = l.took.keeps d' g next w le h in (r.0, rw append_assoc (t.took.keeps d' g (λ a. R r.0 a d' g next) (l.front ++ w) le r.1));
-    only = λ d' g next w avoids heads h. l.took.only d' g next w avoids heads (some_dead S SP P R t.took clear l.front y.1 l.is d' g next w avoids heads h);
-  };
-}
-some_after_law {A} {B} {I} S SP P R {d} {ts} x (Err e) t clear l = record {
-  front = t.front ++ l.front;
-  rest = l.rest;
-  is = joined ts t.front x.1 l.front l.rest t.is l.is;
-  fault = fault_moved l.fault (λ n. d + n)
-      (λ d' g next w where' avoids heads h. l.fault.dead d' g next w where' avoids heads (some_dead S SP P R t.took clear l.front l.rest l.is d' g next w avoids heads h))
-      (λ n tail b. some_after R (d + n) l.front tail t.took (omega arith) (weaker_began (d + n) (omega arith) b))
-      (λ tail b. some_after R d l.front tail t.took (omega arith) b);
-}
-
-pub some_law : {A B I : Type 0} (S SP : Token → Type 0) (P : Phrase A) (R : I → A → Phrase B) (d : ℕ) (ts : List Token) (p : Read A) (q : A × List Token → Read B) → Law SP P d ts p
-    → ((a : A) (r : List Token) → p ≡ Ok (a, r) → Law S (Some R a) d r (q (a, r))) → ((a : A) → Able (Some R a) d) → Clear SP S (Some R) → Law S (ThenSome P R) d ts (p >>= q)
-some_law {A} {B} {I} S SP P R d ts (Ok x) q lp lq able clear = some_after_law S SP P R x (q x) lp clear (lq x.0 x.1 refl)
-some_law {A} {B} {I} S SP P R d ts (Err e) q lp lq able clear = record {
-  front = lp.front;
-  rest = lp.rest;
-  is = lp.is;
-  fault = fault_moved lp.fault (λ n. d + n)
-      (λ d' g next w where' avoids heads h. lp.fault.dead d' g (λ a. R h.0 a d' g next) w where' (λ a t ts s n. clear a d' g next avoids t ts s (h.0, n)) heads h.1)
-      (λ n tail b. some_began R (λ a. weaker_began (d + n) (omega arith) (able a)) (weaker_began (d + n) (omega arith) b))
-      (λ tail b. some_began R able b);
-}
+use Rattle.pm_grammar.proofs.Phrases.{Phrase, Next, Avoids, Able, Began, GoesOn, longer, Fault, Law, moved, fault_moved}
+pub use Rattle.pm_grammar.proofs.Readers.{Some, ThenSome, some_law}
+use Rattle.pm_grammar.proofs.Readers.{Or, Same}
 
 -- what the first token of an entry past the limit says: there is no entry, or one begins
 pub record Peek {A : Type 0} (S : Token → Type 0) (P : Phrase A) (d : ℕ) (peek : List Token → Read Token) : Type 1 where

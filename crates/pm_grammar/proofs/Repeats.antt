@@ -1,34 +1,15 @@
 -- The reader of entries with nothing between them.
-use Rattle.std.proofs.Common.{◌≡◌, ◌≤◌, ◌<◌, ℕ, zero, suc, Bool, true, false, List, [], ◌∷◌, ◌++◌, length, Ok, refl, arith, length-append, nat_le, if◌then◌else◌}
+use Rattle.std.proofs.Common.{◌≡◌, ◌≤◌, ℕ, zero, suc, Bool, true, false, List, [], ◌∷◌, ◌++◌, length, Ok, refl, arith, nat_le, if◌then◌else◌}
 use Rattle.pm_lexer.specs.declared.token.Token.{Token}
-use Rattle.pm_grammar.specs.Language.{Gate}
 use Rattle.pm_grammar.specs.Reading.{too_many, Read, ◌>>=◌, place_of, sees, entry_at, more_at}
-use Rattle.pm_grammar.proofs.Phrases.{Phrase, Next, Heads, Taken, Law, Reader, Nothing}
+use Rattle.pm_grammar.proofs.Phrases.{Phrase, Law, Reader, Nothing}
 use Rattle.pm_grammar.proofs.Readers.{same_law, first_law, second_law, pure_reader}
 use Rattle.pm_grammar.proofs.Lists.{Some, ThenSome, some_law, Peek, Further, More, Entry, None, further_same, further_able, entry_same, past_law}
-use Rattle.pm_grammar.proofs.Furthers.{seen_head, none_seen, past, not_past, Refused, refused_bind}
+use Rattle.pm_grammar.proofs.Furthers.{NoEntry, shorter, seen_head, none_seen, past, not_past, Refused, refused_bind}
 
 -- nothing, as a separator
 abbrev pub Empty : Phrase (Unit {0})
 Empty d g next = next tt
-
--- no entry begins like this
-abbrev pub NoEntry : {A : Type 0} → Phrase A → List Token → Type 1
-NoEntry {A} P ts = (d : ℕ) (g : Gate) (next : Next A) (w : List Token) → Heads ts w → P d g next w → ⊥
-
--- an entry is not empty
-shorter : {A : Type 0} (P : Phrase A) (d : ℕ) → NoEntry P [] → (ts : List Token) (x : A × List Token) → Taken Nothing P d ts x → length x.1 < length ts
-shorter {A} P d none ts x t = rw t.is (omega (arith, length-append t.front x.1, some t.front (λ e. empty e)))
-  where
-    empty : t.front ≡ [] → ⊥
-    empty e =
-        let next : Next A = λ _ _. Unit {0} in
-        let h : P d (λ _. Unit {0}) next (t.front ++ []) = t.took.keeps d (λ _. Unit {0}) next [] (omega arith) tt in
-        none d (λ _. Unit {0}) next [] refl (rw e at h)
-
-    some : (front : List Token) → (front ≡ [] → ⊥) → 0 < length front
-    some [] full = absurd (full refl)
-    some (u ∷ us) full = omega arith
 
 stops_law : {A : Type 0} (T : Token → Type 0) (P : Phrase A) (limit d : ℕ) (before : List A) (ts : List Token) → NoEntry P ts → Law T (Further limit Empty (λ _. P) before) d ts (Ok (before, ts))
 stops_law T P limit d before ts none =

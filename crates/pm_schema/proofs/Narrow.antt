@@ -1,39 +1,30 @@
 -- The tables that the grammar reads are narrow, and their scales are from 1 to 6.
-use Rattle.std.proofs.Common.{◌≡◌, ◌≤◌, ◌<◌, ◌++◌, ℕ, zero, suc, Bool, true, false, List, [], ◌∷◌, Option, Some, None, length, arith, inl, inr}
-use Rattle.std.specs.Prelude.{All}
+use Rattle.std.proofs.Common.{◌≡◌, ◌≤◌, ◌||◌, ℕ, Bool, true, List, [], ◌∷◌, Option, is_some, arith}
 use Rattle.std.proofs.lemmas.Bool.{and_parts, leb-true}
-use Rattle.std.proofs.lemmas.List.{length-append}
-use Rattle.std.proofs.lemmas.List.Elements.{All-cons, All-nil, All-push}
 use Rattle.pm_lexer.specs.declared.token.Token.{Token}
 use Rattle.pm_lexer.specs.declared.token.TokenKind.{TokenKind}
 use Rattle.pm_lexer.specs.declared.token.TokenKind.TheVariants as token_kind
 use Rattle.pm_lexer.specs.declared.symbol.Symbol.TheVariants as symbol
 use Rattle.pm_lexer.specs.Symbol.{is}
 use Rattle.pm_lexer.specs.Pieces.{content_of}
-use Rattle.pm_grammar.specs.Language.{Lang, Is, IsMore, IsFurther, never}
-use Rattle.pm_values.specs.declared.value.Kind.{Kind}
+use Rattle.pm_grammar.specs.Language.{Lang, never, Is, IsFurther, IsClause}
+use Rattle.pm_grammar.proofs.Yields.{Yields, Any, IsShort, token_then, token_yields, then_yields, only_yields, or_yields, further_yields, list_yields}
 use Rattle.pm_values.specs.declared.value.Kind.TheVariants as kind
-use Rattle.pm_values.specs.Table.{IsScale}
-use Rattle.pm_schema.specs.declared.tree.Terminal.TheVariants as terminal
-use Rattle.pm_schema.specs.declared.tree.PlacedName.{PlacedName}
+use Rattle.pm_values.specs.declared.limits.TheConstants.{MOST_COLUMNS, MOST_KEY_COLUMNS, MOST_REFERENCES}
+use Rattle.pm_values.specs.Table.{IsValidKind}
+use Rattle.pm_schema.specs.declared.terminals.Word.TheVariants as word
+use Rattle.pm_values.specs.declared.value.Kind.{Kind}
+use Rattle.pm_grammar.specs.declared.names.PlacedName.{PlacedName}
+use Rattle.pm_grammar.specs.Reading.{named}
+use Rattle.pm_schema.specs.declared.tree.ReferenceText.{ReferenceText}
 use Rattle.pm_schema.specs.declared.tree.ColumnText.{ColumnText}
 use Rattle.pm_schema.specs.declared.tree.Body.{Body}
 use Rattle.pm_schema.specs.declared.tree.TableText.{TableText}
-use Rattle.pm_schema.specs.Terminals.{keyed, named, spells_scale, is_scale_digit, digit_of, scale_of, stands}
-use Rattle.pm_schema.specs.Grammar.{IsName, IsNum, IsKind, IsNullable, IsColumn, IsNames, IsKey, IsOrder, IsFurtherBody, IsBody, IsNothing, IsTable}
+use Rattle.pm_schema.specs.declared.tables.TheConstants.{MOST_TABLES}
+use Rattle.pm_schema.specs.Terminals.{marked, is_name, is_clause, references_word, is_references, is_scale_digit, spells_scale, digit_of, scale_of}
+use Rattle.pm_schema.specs.Grammar.{IsName, IsNum, IsKind, IsNullable, IsColumn, IsNames, IsReference, IsReferences, IsKey, IsOrder, IsClauses, IsBody, IsTable, IsNothing, IsSchema}
 use Rattle.pm_schema.specs.Answers.{Reads}
 use Rattle.pm_schema.specs.Meaning.{IsNarrow}
-
--- what a phrase of the language has as its value is so, and what was asked to follow does
-abbrev Gives : {A : Type 0} → Lang A → (A → Type 0) → Type 1
-Gives {A} L Q = (next : A → List Token → Type 0) (ts : List Token) → L next ts → (a : A) × (rest : List Token) × Q a × next a rest
-
-abbrev Any : {A : Type 0} → A → Type 0
-Any a = Unit {0}
-
-is_gives : (test : Token → Bool) → Gives (Is test) (λ t. test t ≡ true)
-is_gives test next [] h = absurd h
-is_gives test next (t ∷ ts) h = (t, ts, h.0, h.1)
 
 scale_digit : (slice : List ℕ) → is_scale_digit slice ≡ true → (1 ≤ digit_of slice) × (digit_of slice ≤ 6)
 scale_digit [] h = absurd (cc h)
@@ -46,141 +37,92 @@ scale_digit (b ∷ []) h =
 
 scale_spelt : (k : TokenKind) (slice : List ℕ) → spells_scale k slice ≡ true → (1 ≤ digit_of slice) × (digit_of slice ≤ 6)
 scale_spelt token_kind.Number slice h = scale_digit slice h
-scale_spelt token_kind.Name slice h = absurd (cc h)
-scale_spelt token_kind.Reserved slice h = absurd (cc h)
-scale_spelt token_kind.Quoted slice h = absurd (cc h)
-scale_spelt token_kind.Text slice h = absurd (cc h)
-scale_spelt token_kind.Sign slice h = absurd (cc h)
-scale_spelt token_kind.End slice h = absurd (cc h)
+scale_spelt k slice h = absurd (cc h)
 
-num_gives : Gives IsNum IsScale
-num_gives next ts h =
-    let word = is_gives _ _ ts h in
-    let paren = is_gives _ _ word.1 word.3 in
-    let scale = is_gives _ _ paren.1 paren.3 in
-    let close = is_gives _ _ scale.1 scale.3 in
-    (kind.Num (scale_of scale.0), close.1, scale_spelt scale.0.kind scale.0.slice scale.2, close.3)
+num_yields : Yields IsNum IsValidKind
+num_yields = token_then IsValidKind _ _ (λ _ _. token_then IsValidKind _ _ (λ _ _. token_then IsValidKind _ _ (λ scale e. token_then IsValidKind _ _ (λ _ _.
+    only_yields IsValidKind (kind.Num (scale_of scale)) (scale_spelt scale.kind scale.slice e)))))
 
-kind_gives : Gives IsKind IsScale
-kind_gives next ts (inl h) = let word = is_gives _ _ ts h in (kind.Int, word.1, tt, word.3)
-kind_gives next ts (inr (inl h)) = let word = is_gives _ _ ts h in (kind.Text, word.1, tt, word.3)
-kind_gives next ts (inr (inr h)) = num_gives next ts h
+kind_yields : Yields IsKind IsValidKind
+kind_yields = or_yields IsValidKind _ _ (token_then IsValidKind _ _ (λ _ _. only_yields IsValidKind kind.Int tt))
+    (or_yields IsValidKind _ _ (token_then IsValidKind _ _ (λ _ _. only_yields IsValidKind kind.Text tt)) num_yields)
 
-nullable_gives : Gives IsNullable Any
-nullable_gives next ts (inl h) = (true, ts, tt, h)
-nullable_gives next ts (inr h) =
-    let not = is_gives _ _ ts h in
-    let null = is_gives _ _ not.1 not.3 in
-    (false, null.1, tt, null.3)
+nullable_yields : Yields IsNullable Any
+nullable_yields = or_yields Any _ _ (only_yields Any _ tt) (token_then Any _ _ (λ _ _. token_then Any _ _ (λ _ _. only_yields Any _ tt)))
 
-abbrev ColumnScale : ColumnText → Type 0
-ColumnScale column = IsScale column.kind
+abbrev IsValidColumn : ColumnText → Type 0
+IsValidColumn column = IsValidKind column.kind
 
-column_gives : (names : Token → Bool) → Gives (IsColumn names) ColumnScale
-column_gives names next ts h =
-    let with : Token → Kind → Bool → List Token → Type 0 = λ name kind nullable. next (record { name = named name; kind = kind; nullable = nullable }) in
-    let name = is_gives names (λ name. IsKind (λ kind. IsNullable (with name kind))) ts h in
-    let kind = kind_gives (λ kind. IsNullable (with name.0 kind)) name.1 name.3 in
-    let nullable = nullable_gives (with name.0 kind.0) kind.1 kind.3 in
-    (record { name = named name.0; kind = kind.0; nullable = nullable.0 }, nullable.1, kind.2, nullable.3)
+abbrev said : Token → Kind → Bool → ColumnText
+said name kind nullable = record { name = named name; kind = kind; nullable = nullable }
 
--- a list of entries within its limit, each of which is so
-record IsShort {A : Type 0} (Q : A → Type 0) (limit : ℕ) (all : List A) : Type 0 where
-  count : length all ≤ limit
-  each : All Q all
+column_yields : (names : Token → Bool) → Yields (IsColumn names) IsValidColumn
+column_yields names = token_then IsValidColumn names _ (λ name _. then_yields IsValidKind IsValidColumn IsKind (λ kind next. IsNullable (λ nullable. next (said name kind nullable))) kind_yields (λ kind valid.
+    then_yields Any IsValidColumn IsNullable (λ nullable next. next (said name kind nullable)) nullable_yields (λ nullable _. only_yields IsValidColumn (said name kind nullable) valid)))
 
-more_gives : {A S : Type 0} (limit : ℕ) (Sep : Lang S) (P : S → Lang A) (Q : A → Type 0) → Gives Sep Any → ((s : S) → Gives (P s) Q)
-    → (n : ℕ) (before : List A) → IsShort Q limit before → Gives (IsMore never limit Sep P n before) (IsShort Q limit)
-unfolding IsMore
-more_gives limit Sep P Q sep entry zero before short next ts h = (before, ts, short, h)
-more_gives limit Sep P Q sep entry (suc n) before short next ts h =
-    let s = sep _ ts h in
-    let a = entry s.0 _ s.1 s.3.1 in
-    let low : length before < limit = omega (arith, s.3.0) in
-    more_gives limit Sep P Q sep entry n (before ++ a.0 ∷ []) (record {
-      count = omega (arith, length-append before (a.0 ∷ []));
-      each = All-push Q before a.0 short.each a.2;
-    }) next a.1 a.3
+name_yields : Yields IsName Any
+name_yields = token_then Any _ _ (λ name _. only_yields Any _ tt)
 
-further_gives : {A S : Type 0} (limit : ℕ) (Sep : Lang S) (P : S → Lang A) (Q : A → Type 0) → Gives Sep Any → ((s : S) → Gives (P s) Q)
-    → (before : List A) → IsShort Q limit before → Gives (IsFurther never limit Sep P before) (IsShort Q limit)
-further_gives limit Sep P Q sep entry before short next ts h = more_gives limit Sep P Q sep entry h.0 before short next ts h.1
+names_yields : Yields (IsNames never) Any
+names_yields = token_then Any _ _ (λ _ _. then_yields _ Any _ _ (list_yields MOST_KEY_COLUMNS IsName Any (is symbol.Comma) (omega arith) name_yields) (λ names _. token_then Any _ _ (λ _ _. only_yields Any names tt)))
 
-one_short : {A : Type 0} (Q : A → Type 0) (limit : ℕ) (a : A) → 1 ≤ limit → Q a → IsShort Q limit (a ∷ [])
-one_short Q limit a room h = record { count = omega (arith, room); each = All-cons Q a [] h (All-nil Q) }
+clause_yields : (word : Token → Bool) → Yields (IsClause (is symbol.Comma) word (IsNames never)) Any
+clause_yields word = or_yields Any _ _ (only_yields Any _ tt) (token_then Any (is symbol.Comma) _ (λ _ _. token_then Any word _ (λ _ _. then_yields Any Any (IsNames never) _ names_yields (λ names _. only_yields Any _ tt))))
 
-sign_gives : (test : Token → Bool) → Gives (Is test) Any
-sign_gives test next ts h = let t = is_gives test next ts h in (t.0, t.1, tt, t.3)
+reference_yields : (word : Token → Bool) → Yields (IsReference word never) Any
+reference_yields word = token_then Any word _ (λ _ _. then_yields Any Any (IsNames never) _ names_yields (λ columns _. token_then Any _ _ (λ _ _.
+    then_yields Any Any IsName (λ target next. IsNames never (λ keys. next (all columns target keys))) name_yields (λ target _. then_yields Any Any (IsNames never) (λ keys next. next (all columns target keys)) names_yields (λ keys _.
+    only_yields Any (all columns target keys) tt)))))
+  where
+    all : List PlacedName → PlacedName → List PlacedName → ReferenceText
+    all columns target keys = record { columns = columns; target = target; keys = keys }
 
-name_gives : Gives IsName Any
-name_gives next ts h = let t = is_gives _ _ ts h in (named t.0, t.1, tt, t.3)
+references_yields : (word : Token → Bool) → Yields (IsReferences word never) Any
+references_yields word = or_yields Any _ _ (only_yields Any _ tt) (token_then Any (is symbol.Comma) _ (λ _ _. then_yields Any Any (IsReference word never) _ (reference_yields word) (λ first _.
+    then_yields _ Any _ _ (further_yields MOST_REFERENCES (Is (is symbol.Comma)) (λ _. IsReference is_references never) Any (token_yields (is symbol.Comma)) (λ _. reference_yields is_references) first (omega arith) tt) (λ all _. only_yields Any all tt))))
 
-names_gives : Gives (IsNames never) Any
-names_gives next ts h =
-    let end : List PlacedName → List Token → Type 0 = λ names. Is (is symbol.Close) (λ _. next names) in
-    let paren = is_gives _ _ ts h in
-    let first = name_gives (λ first. IsFurther never 8 (Is (is symbol.Comma)) (λ _. IsName) (first ∷ []) end) paren.1 paren.3 in
-    let names = further_gives 8 (Is (is symbol.Comma)) (λ _. IsName) Any (sign_gives (is symbol.Comma)) (λ _. name_gives) (first.0 ∷ []) (one_short Any 8 first.0 (omega arith) tt) end first.1 first.3 in
-    let close = is_gives _ _ names.1 names.3 in
-    (names.0, close.1, tt, close.3)
+abbrev IsNarrowBody : Body → Type 0
+IsNarrowBody body = IsShort IsValidColumn MOST_COLUMNS body.columns
 
-key_gives : Gives (IsKey never) Any
-key_gives next ts (inl h) = (None, ts, tt, h)
-key_gives next ts (inr h) =
-    let comma = is_gives _ _ ts h in
-    let key = is_gives _ _ comma.1 comma.3 in
-    let names = names_gives (λ names. next (Some names)) key.1 key.3 in
-    (Some names.0, names.1, tt, names.3)
+abbrev Referred : Option (List PlacedName) → Option (List PlacedName) → Lang (List ReferenceText)
+Referred key order = IsReferences (references_word (is_some key || is_some order)) never
 
-order_gives : Gives (IsOrder never) Any
-order_gives next ts (inl h) = (None, ts, tt, h)
-order_gives next ts (inr h) =
-    let comma = is_gives _ _ ts h in
-    let order = is_gives _ _ comma.1 comma.3 in
-    let names = names_gives (λ names. next (Some names)) order.1 order.3 in
-    (Some names.0, names.1, tt, names.3)
+clauses_yields : (columns : List ColumnText) → IsShort IsValidColumn MOST_COLUMNS columns → Yields (IsClauses never columns) IsNarrowBody
+clauses_yields columns short =
+    then_yields Any IsNarrowBody (IsKey never) (λ key next. IsOrder never (λ order. Referred key order (λ references. next (all key order references)))) (clause_yields (is_clause word.Key)) (λ key _.
+    then_yields Any IsNarrowBody (IsOrder never) (λ order next. Referred key order (λ references. next (all key order references))) (clause_yields (is symbol.Order)) (λ order _.
+    then_yields Any IsNarrowBody (Referred key order) (λ references next. next (all key order references)) (references_yields (references_word (is_some key || is_some order))) (λ references _.
+    only_yields IsNarrowBody (all key order references) short)))
+  where
+    all : Option (List PlacedName) → Option (List PlacedName) → List ReferenceText → Body
+    all key order references = record { columns = columns; key = key; order = order; references = references }
 
-abbrev ShortBody : Body → Type 0
-ShortBody body = IsShort ColumnScale 64 body.columns
+body_yields : Yields (IsBody never) IsNarrowBody
+body_yields = then_yields IsValidColumn IsNarrowBody (IsColumn is_name) _ (column_yields is_name) (λ first valid.
+    then_yields (IsShort IsValidColumn MOST_COLUMNS) IsNarrowBody (IsFurther never MOST_COLUMNS (Is (is symbol.Comma)) (λ _. IsColumn (is symbol.Name)) (first ∷ [])) _
+    (further_yields MOST_COLUMNS (Is (is symbol.Comma)) (λ _. IsColumn (is symbol.Name)) IsValidColumn (token_yields (is symbol.Comma)) (λ _. column_yields (is symbol.Name)) first (omega arith) valid) clauses_yields)
 
-body_gives : Gives (IsBody never) ShortBody
-body_gives next ts h =
-    let with : List ColumnText → Option (List PlacedName) → Option (List PlacedName) → List Token → Type 0
-    = λ columns key order. next (record { columns = columns; key = key; order = order }) in
-    let first = column_gives (stands terminal.Name) (λ first. IsFurtherBody never (first ∷ []) next) ts h in
-    let columns = further_gives 64 (Is (is symbol.Comma)) (λ _. IsColumn (is symbol.Name)) ColumnScale (sign_gives (is symbol.Comma)) (λ _. column_gives (is symbol.Name))
-    (first.0 ∷ []) (one_short ColumnScale 64 first.0 (omega arith) first.2) (λ columns. IsKey never (λ key. IsOrder never (with columns key))) first.1 first.3 in
-    let key = key_gives (λ key. IsOrder never (with columns.0 key)) columns.1 columns.3 in
-    let order = order_gives (with columns.0 key.0) key.1 key.3 in
-    (record { columns = columns.0; key = key.0; order = order.0 }, order.1, columns.2, order.3)
+-- after a table's name, and after its body
+abbrev Ended : PlacedName → Token → Body → Lang TableText
+Ended name file body next = Is (is symbol.Close) (λ _. Is (is symbol.Semicolon) (λ _. next (record { name = name; file = content_of file; body = body })))
 
-table_gives : Gives (IsTable never) IsNarrow
-table_gives next ts h =
-    let table = is_gives _ _ ts h in
-    let name = is_gives _ _ table.1 table.3 in
-    let from = is_gives _ _ name.1 name.3 in
-    let file = is_gives _ _ from.1 from.3 in
-    let paren = is_gives _ _ file.1 file.3 in
-    let end : Body → List Token → Type 0 = λ body. Is (is symbol.Close) (λ _. Is (is symbol.Semicolon) (λ _. next (record { name = named name.0; file = content_of file.0; body = body }))) in
-    let body = body_gives end paren.1 paren.3 in
-    let close = is_gives _ _ body.1 body.3 in
-    let semicolon = is_gives _ _ close.1 close.3 in
-    (record { name = named name.0; file = content_of file.0; body = body.0 }, semicolon.1, record { columns = body.2.count; scales = body.2.each }, semicolon.3)
+abbrev Filed : PlacedName → Lang TableText
+Filed name next = Is (is symbol.From) (λ _. Is (is symbol.Text) (λ file. Is (is symbol.Open) (λ _. IsBody never (λ body. Ended name file body next))))
 
-nothing_gives : Gives IsNothing Any
-nothing_gives next ts h = (tt, ts, tt, h)
+table_yields : Yields (IsTable never) IsNarrow
+table_yields = token_then IsNarrow _ (λ _ next. IsName (λ name. Filed name next)) (λ _ _. then_yields Any IsNarrow IsName Filed name_yields (λ name _.
+    token_then IsNarrow _ _ (λ _ _. token_then IsNarrow _ _ (λ file _. token_then IsNarrow _ _ (λ _ _. then_yields IsNarrowBody IsNarrow (IsBody never) (Ended name file) body_yields (λ body narrow.
+    token_then IsNarrow _ _ (λ _ _. token_then IsNarrow _ _ (λ _ _. only_yields IsNarrow (record { name = name; file = content_of file; body = body }) (record { columns = narrow.count; scales = narrow.each })))))))))
 
--- the tables of a schema are at most 64, and narrow
-reads_short : (tokens : List Token) (tables : List TableText) → Reads tokens tables → IsShort IsNarrow 64 tables
-reads_short tokens tables h =
-    let end : List TableText → List Token → Type 0 = λ all. Is (is symbol.End) (λ _ rest. (all ≡ tables) × (rest ≡ [])) in
-    let first = table_gives (λ first. IsFurther never 64 IsNothing (λ _. IsTable never) (first ∷ []) end) (keyed tokens) h in
-    let all = further_gives 64 IsNothing (λ _. IsTable never) IsNarrow nothing_gives (λ _. table_gives) (first.0 ∷ []) (one_short IsNarrow 64 first.0 (omega arith) first.2) end first.1 first.3 in
-    let last = is_gives _ _ all.1 all.3 in
-    rw (← last.3.0) all.2
+abbrev Last : List TableText → Lang (List TableText)
+Last tables next = Is (is symbol.End) (λ _. next tables)
 
-pub reads_narrow : (tokens : List Token) (tables : List TableText) → Reads tokens tables → All IsNarrow tables
-reads_narrow tokens tables h = (reads_short tokens tables h).each
+schema_yields : Yields (IsSchema never) (IsShort IsNarrow MOST_TABLES)
+schema_yields = then_yields IsNarrow (IsShort IsNarrow MOST_TABLES) (IsTable never) (λ first next. IsFurther never MOST_TABLES IsNothing (λ _. IsTable never) (first ∷ []) (λ tables. Last tables next)) table_yields (λ first narrow.
+    then_yields (IsShort IsNarrow MOST_TABLES) (IsShort IsNarrow MOST_TABLES) (IsFurther never MOST_TABLES IsNothing (λ _. IsTable never) (first ∷ [])) Last
+    (further_yields MOST_TABLES IsNothing (λ _. IsTable never) IsNarrow (only_yields Any tt tt) (λ _. table_yields) first (omega arith) narrow)
+    (λ tables short. token_then (IsShort IsNarrow MOST_TABLES) _ _ (λ _ _. only_yields (IsShort IsNarrow MOST_TABLES) tables short)))
 
-pub reads_few : (tokens : List Token) (tables : List TableText) → Reads tokens tables → length tables ≤ 64
-reads_few tokens tables h = (reads_short tokens tables h).count
+-- the tables of a schema are few and narrow
+pub reads_short : (tokens : List Token) (tables : List TableText) → Reads tokens tables → IsShort IsNarrow MOST_TABLES tables
+reads_short tokens tables h = let all = schema_yields (λ found rest. (found ≡ tables) × (rest ≡ [])) (marked tokens) h in rw (← all.3.0) all.2

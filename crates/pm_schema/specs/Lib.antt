@@ -1,7 +1,8 @@
 pub mod Terminals
-pub mod Grammar
 pub mod Reading
+pub mod Grammar
 pub mod Answers
 pub mod Rules
+pub mod References
 pub mod Meaning
 pub mod Worked

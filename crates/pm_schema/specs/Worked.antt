@@ -1,5 +1,5 @@
 -- Schema texts and what they call for.
-use Rattle.std.specs.Prelude.{◌≡◌, ℕ, true, false, List, [], ◌∷◌, Some, None, Result, Ok, codes}
+use Rattle.std.specs.Prelude.{◌≡◌, ℕ, false, List, [], ◌∷◌, Some, None, Result, Ok, codes}
 use Rattle.pm_lexer.specs.declared.token.Token.{Token}
 use Rattle.pm_lexer.specs.Tokens.{tokens_of}
 use Rattle.pm_values.specs.declared.value.Kind.TheVariants as kind
@@ -11,16 +11,34 @@ use Rattle.pm_schema.specs.Meaning.{CallsFor}
 abbrev pub TextCallsFor : List ℕ → Result (List Declaration) SchemaBad → Type 0
 TextCallsFor text answer = (tokens : List Token) × (tokens_of text ≡ Ok tokens) × CallsFor tokens answer
 
--- a table with a key and an order
-abbrev pub keyed_table : Declaration
-keyed_table = record {
+-- a table with a key, an order and a reference to itself
+abbrev pub full_table : Declaration
+full_table = record {
   name = codes "t";
-  file = codes "t.csv";
-  columns = record { name = codes "a"; kind = kind.Int; nullable = false } ∷ record { name = codes "b"; kind = kind.Num 2; nullable = true } ∷ [];
-  key = Some (0 ∷ []);
-  order = Some (1 ∷ 0 ∷ []);
+  file = codes "f";
+  columns = record { name = codes "a"; kind = kind.Int; nullable = false } ∷ record { name = codes "b"; kind = kind.Num 2; nullable = false } ∷ [];
+  key = Some (1 ∷ 0 ∷ []);
+  order = Some (1 ∷ []);
+  references = record { columns = 0 ∷ 1 ∷ []; target = codes "t"; keys = 0 ∷ 1 ∷ [] } ∷ [];
 }
 
--- a table of one column
-abbrev pub column_a : List ℕ → Declaration
-column_a name = record { name = name; file = codes "f"; columns = record { name = codes "a"; kind = kind.Int; nullable = true } ∷ []; key = None; order = None }
+-- a table that refers to the next one
+abbrev pub referring_table : Declaration
+referring_table = record {
+  name = codes "s";
+  file = codes "f";
+  columns = record { name = codes "references"; kind = kind.Int; nullable = false } ∷ [];
+  key = None;
+  order = None;
+  references = record { columns = 0 ∷ []; target = codes "t"; keys = 0 ∷ [] } ∷ [];
+}
+
+abbrev pub target_table : Declaration
+target_table = record {
+  name = codes "t";
+  file = codes "f";
+  columns = record { name = codes "a"; kind = kind.Int; nullable = false } ∷ [];
+  key = Some (0 ∷ []);
+  order = None;
+  references = [];
+}

@@ -1,30 +1,37 @@
-ghost use Rattle.std.specs.Prelude.{◌≡◌, map, IfOk};
-ghost use Rattle.pm_values.specs.Table.{IsDeclaration};
-ghost use Rattle.pm_schema.specs.Meaning.{AreSound, column_number, number_in, numbers, declared_column, declared_table, declared};
+//! What tables that keep the rules declare.
+ghost use Rattle.std.specs.Prelude.{◌≡◌, ◌≤◌, true, length, map, All, IfOk};
+ghost use Rattle.pm_values.specs.declared.limits.TheConstants.{MOST_COLUMNS};
+ghost use Rattle.pm_schema.specs.Rules.{has, name_of_column};
+ghost use Rattle.pm_schema.specs.References.{table_named};
+ghost use Rattle.pm_schema.specs.Meaning.{IsSound, AreNamed, AreNamedIn, IsNamedReference, position_of, column_number, number_in, numbers, columns_of, declared_column, declared_reference, declared_table, declared};
 
-use crate::keyed::first;
-use crate::tree::{ColumnText, PlacedName, PlacedNames, TableText};
-use pm_values::{ColumnDecl, ColumnDecls, Columns, TableDecl, TableDecls};
+use crate::references::table_named;
+use crate::tree::{ColumnText, ReferenceText, TableText};
+use crate::walk::first;
+use pm_grammar::{PlacedName, PlacedNames};
+use pm_values::{ColumnDecl, ColumnDecls, Columns, Reference, References, TableDecl, TableDecls};
 use std::alloc::{AllocError, Global};
 
-// How many columns stand before the first of this name; more than 2^32 - 1 do not fit the memory.
-#[tactic(auto, using(crate::proofs::Maps::number_here, crate::proofs::Maps::number_behind, crate::proofs::Maps::number_ends))]
-fn column_number(columns: &[ColumnText], text: &[u8]) -> Result<u32, AllocError>
-    ensures { IfOk result (λ number. number ≡ column_number columns.now text.now) }
+// The position of the first column of this name.
+fn position_of(columns: &[ColumnText], text: &[u8]) -> Option<usize>
+    ensures { result ≡ position_of columns.now text.now }
 {
-    let mut number: u32 = 0;
-    let mut rest = columns;
-    'columns: while let Some((column, after)) = first(rest) {
-        if column.name.text.bytes() == text {
-            return Ok(number);
-        }
-        if number == u32::MAX {
-            return Err(AllocError);
-        }
-        number += 1;
-        rest = after;
+    columns
+        .iter()
+        .position(|column| column.name.text.bytes() == text)
+}
+
+// The number of the first column of this name.
+#[tactic(auto, using(crate::proofs::Maps::found, crate::proofs::Maps::within))]
+fn column_number(columns: &[ColumnText], text: &[u8]) -> u32
+    requires few { length columns.now ≤ MOST_COLUMNS }
+    requires named { has name_of_column columns.now text.now ≡ true }
+    ensures { result ≡ column_number columns.now text.now }
+{
+    match position_of(columns, text) {
+        Some(number) => number as u32,
+        None => unreachable!(),
     }
-    Ok(number)
 }
 
 // The numbers of the columns that are named.
@@ -33,12 +40,13 @@ fn column_numbers(
     columns: &[ColumnText],
     names: &[PlacedName],
 ) -> Result<Columns, AllocError>
+    requires { AreNamed columns.now names.now }
     ensures { IfOk result (λ numbers. numbers ≡ map (number_in columns.now) names.now) }
 {
     let mut numbers = Columns::new(alloc);
     let mut rest = names;
     'names: while let Some((name, after)) = first(rest) {
-        let number = column_number(columns, name.text.bytes())?;
+        let number = column_number(columns, name.text.bytes());
         numbers.push(number)?;
         rest = after;
     }
@@ -50,6 +58,7 @@ fn numbers(
     columns: &[ColumnText],
     names: &Option<PlacedNames>,
 ) -> Result<Option<Columns>, AllocError>
+    requires { AreNamedIn columns.now names.now }
     ensures { IfOk result (λ found. found ≡ numbers columns.now names.now) }
 {
     match names {
@@ -84,28 +93,83 @@ fn declared_columns(alloc: Global, columns: &[ColumnText]) -> Result<ColumnDecls
     Ok(decls)
 }
 
-fn declared_table(alloc: Global, table: &TableText) -> Result<TableDecl, AllocError>
-    requires { IsDeclaration (declared_table table.now) }
-    ensures { IfOk result (λ decl. decl ≡ declared_table table.now) }
+// The columns of the first table of this name.
+fn columns_named<'a>(tables: &'a [TableText], text: &[u8]) -> &'a [ColumnText]
+    ensures { result.now ≡ columns_of (table_named tables.now text.now) }
 {
-    let texts = table.body.columns.as_slice();
+    match table_named(tables, text) {
+        Some(table) => table.body.columns.as_slice(),
+        None => &[],
+    }
+}
+
+fn declared_reference(
+    alloc: Global,
+    tables: &[TableText],
+    columns: &[ColumnText],
+    reference: &ReferenceText,
+) -> Result<Reference, AllocError>
+    requires { IsNamedReference tables.now columns.now reference.now }
+    ensures { IfOk result (λ decl. decl ≡ declared_reference tables.now columns.now reference.now) }
+{
+    let targets = columns_named(tables, reference.target.text.bytes());
+    let columns = column_numbers(alloc, columns, reference.columns.as_slice())?;
+    let target = reference.target.text.copy(alloc)?;
+    let keys = column_numbers(alloc, targets, reference.keys.as_slice())?;
+    Ok(Reference {
+        columns,
+        target,
+        keys,
+    })
+}
+
+fn declared_references(
+    alloc: Global,
+    tables: &[TableText],
+    columns: &[ColumnText],
+    references: &[ReferenceText],
+) -> Result<References, AllocError>
+    requires { All (IsNamedReference tables.now columns.now) references.now }
+    ensures { IfOk result (λ decls. decls ≡ map (declared_reference tables.now columns.now) references.now) }
+{
+    let mut decls = References::new(alloc);
+    let mut rest = references;
+    'references: while let Some((reference, after)) = first(rest) {
+        let decl = declared_reference(alloc, tables, columns, reference)?;
+        decls.push(decl)?;
+        rest = after;
+    }
+    Ok(decls)
+}
+
+fn declared_table(
+    alloc: Global,
+    tables: &[TableText],
+    table: &TableText,
+) -> Result<TableDecl, AllocError>
+    requires { IsSound tables.now table.now }
+    ensures { IfOk result (λ decl. decl ≡ declared_table tables.now table.now) }
+{
+    let body = &table.body;
+    let texts = body.columns.as_slice();
     let name = table.name.text.copy(alloc)?;
     let file = table.file.copy(alloc)?;
     let columns = declared_columns(alloc, texts)?;
-    let key = numbers(alloc, texts, &table.body.key)?;
-    let order = numbers(alloc, texts, &table.body.order)?;
-    Ok(TableDecl::new(name, file, columns, key, order))
+    let key = numbers(alloc, texts, &body.key)?;
+    let order = numbers(alloc, texts, &body.order)?;
+    let references = declared_references(alloc, tables, texts, body.references.as_slice())?;
+    Ok(TableDecl::new(name, file, columns, key, order, references))
 }
 
 // What the texts of tables declare.
 pub(crate) fn declared(alloc: Global, tables: &[TableText]) -> Result<TableDecls, AllocError>
-    requires { AreSound tables.now }
+    requires { All (IsSound tables.now) tables.now }
     ensures { IfOk result (λ decls. decls ≡ declared tables.now) }
 {
     let mut decls = TableDecls::new(alloc);
     let mut rest = tables;
     'tables: while let Some((table, after)) = first(rest) {
-        let decl = declared_table(alloc, table)?;
+        let decl = declared_table(alloc, tables, table)?;
         decls.push(decl)?;
         rest = after;
     }

@@ -3,20 +3,25 @@
 //! the readers answer what the reading functions there say.
 #![tactic(auto)]
 
-pub mod columns;
-pub mod declared;
-pub mod fault;
-pub mod keyed;
-pub mod read;
-pub mod rules;
-pub mod schema;
-pub mod tables;
-pub mod terminals;
-pub mod tree;
-pub mod worked;
+mod bodies;
+mod declared;
+mod fault;
+mod laws;
+mod marks;
+mod read;
+mod references;
+mod rules;
+mod schema;
+mod tables;
+mod terminals;
+mod tree;
+mod walk;
+mod worked;
 
 pub use fault::SchemaBad;
-pub use schema::{Schema, answers_once, read_schema};
+pub use laws::answers_once;
+pub use schema::{Schema, read_schema};
+pub use worked::texts_worked;
 
 #[cfg(test)]
 mod tests;

@@ -1,8 +1,11 @@
-ghost use Rattle.std.specs.Prelude.{◌≡◌, ℕ, [], None, fold, nat_lt, ◌||◌, ◌&&◌};
-ghost use Rattle.pm_schema.specs.Rules.{name_of_column, name_of_table, itself, has, is_nullable, breaks, breach_at, breaches, key_breaches, order_breaches, table_breaches, all_table_breaches, rank, is_before, earlier, first_breach};
+//! The rules of names, in the order of the rules, and which breach comes first.
+ghost use Rattle.std.specs.Prelude.{◌≡◌, fold};
+ghost use Rattle.std.specs.Option.{option_copied};
+ghost use Rattle.pm_schema.specs.Rules.{has, column_named, is_faulty, breach_at, breaches, key_breaches, order_breaches, rank, earlier};
 
-use crate::keyed::first;
-use crate::tree::{ColumnText, PlacedName, PlacedNames, TableText};
+use crate::tree::{ColumnText, TableText};
+use crate::walk::first;
+use pm_grammar::{PlacedName, PlacedNames};
 
 /// A rule that the tables of a schema keep.
 #[derive(Clone, Copy, Debug, PartialEq, Eq)]
@@ -11,6 +14,18 @@ pub enum Rule {
     DoubleColumn,
     KeyColumn,
     NullKey,
+    RefTable,
+    RefColumn,
+    RefShape,
+}
+
+/// What may be wrong with a name in a list: an earlier one is the same; or it is no column of the table, or an earlier
+/// one is the same; or its column is nullable.
+#[derive(Clone, Copy, Debug, PartialEq, Eq)]
+pub enum Fault {
+    Repeated,
+    NoNewColumn,
+    Nullable,
 }
 
 /// A rule, and the place of a name that breaks it.
@@ -22,7 +37,7 @@ pub struct Breach {
 
 /// What has a name.
 pub(crate) trait Named {
-    ghost use Rattle.pm_schema.specs.declared.tree.PlacedName.{PlacedName};
+    ghost use Rattle.pm_grammar.specs.declared.names.PlacedName.{PlacedName};
 
     /// The name.
     ghost name_of: { Self → PlacedName };
@@ -62,50 +77,38 @@ impl Named for PlacedName {
 }
 
 // Whether one of these has the name.
-#[tactic(auto, using(crate::proofs::Breaches::has_found, crate::proofs::Breaches::has_not, crate::proofs::Breaches::has_none))]
 pub(crate) fn has<N: Named>(items: &[N], text: &[u8]) -> bool
     ensures { result ≡ has N.name_of items.now text.now }
 {
-    let mut rest = items;
-    'items: while let Some((item, after)) = first(rest) {
-        if item.name().text.bytes() == text {
-            return true;
-        }
-        rest = after;
-    }
-    false
+    items.iter().any(|item| item.name().text.bytes() == text)
 }
 
-// Whether the first column of this name is nullable.
-#[tactic(auto, using(crate::proofs::Breaches::nullable_found, crate::proofs::Breaches::nullable_not, crate::proofs::Breaches::nullable_none))]
-fn is_nullable(columns: &[ColumnText], text: &[u8]) -> bool
-    ensures { result ≡ is_nullable columns.now text.now }
+// The first column of this name.
+pub(crate) fn column_named<'a>(columns: &'a [ColumnText], text: &[u8]) -> Option<&'a ColumnText>
+    ensures { option_copied result ≡ column_named columns.now text.now }
 {
-    let mut rest = columns;
-    'columns: while let Some((column, after)) = first(rest) {
-        if column.name.text.bytes() == text {
-            return column.nullable;
-        }
-        rest = after;
-    }
-    false
+    columns
+        .iter()
+        .find(|column| column.name.text.bytes() == text)
 }
 
-// Whether a name behind these breaks the rule.
-fn breaks<N: Named>(rule: Rule, columns: &[ColumnText], before: &[N], name: &PlacedName) -> bool
-    ensures { result ≡ breaks N.name_of rule columns.now before.now name.now }
+// Whether a name behind these has the fault.
+fn is_faulty<N: Named>(
+    fault: Fault,
+    columns: &[ColumnText],
+    before: &[N],
+    name: &PlacedName,
+) -> bool
+    ensures { result ≡ is_faulty N.name_of fault columns.now before.now name.now }
 {
     let text = name.text.bytes();
-    match rule {
-        Rule::DoubleTable | Rule::DoubleColumn => has(before, text),
-        Rule::KeyColumn => {
-            if has(columns, text) {
-                has(before, text)
-            } else {
-                true
-            }
-        }
-        Rule::NullKey => is_nullable(columns, text),
+    match fault {
+        Fault::Repeated => has(before, text),
+        Fault::NoNewColumn => !has(columns, text) || has(before, text),
+        Fault::Nullable => match column_named(columns, text) {
+            None => false,
+            Some(column) => column.nullable,
+        },
     }
 }
 
@@ -117,6 +120,9 @@ fn rank(rule: Rule) -> u8
         Rule::DoubleColumn => 1,
         Rule::KeyColumn => 2,
         Rule::NullKey => 3,
+        Rule::RefTable => 4,
+        Rule::RefColumn => 5,
+        Rule::RefShape => 6,
     }
 }
 
@@ -137,7 +143,7 @@ fn earlier(found: Option<Breach>, next: Breach) -> Option<Breach>
 }
 
 // The first breach, of those found and of this one, if it is one.
-fn noted(found: Option<Breach>, broken: bool, at: u64, rule: Rule) -> Option<Breach>
+pub(crate) fn noted(found: Option<Breach>, broken: bool, at: u64, rule: Rule) -> Option<Breach>
     ensures { result ≡ fold earlier found (breach_at broken at rule) }
 {
     if broken {
@@ -147,27 +153,24 @@ fn noted(found: Option<Breach>, broken: bool, at: u64, rule: Rule) -> Option<Bre
     }
 }
 
-// The first breach, of those found and of this rule by these names.
+// The first breach, of those found and of this rule by names with this fault.
 #[tactic(auto, using(crate::proofs::Breaches::breaches_step, crate::proofs::Breaches::breaches_end))]
-fn check<N: Named>(
+pub(crate) fn check<N: Named>(
     rule: Rule,
+    fault: Fault,
     columns: &[ColumnText],
     items: &[N],
     so_far: Option<Breach>,
 ) -> Option<Breach>
-    ensures { result ≡ fold earlier so_far (breaches N.name_of rule columns.now items.now) }
+    ensures { result ≡ fold earlier so_far (breaches N.name_of rule fault columns.now items.now) }
 {
     let mut found = so_far;
     let mut rest = items;
     let mut i = 0;
     'items: while let Some((item, after)) = first(rest) {
         let name = item.name();
-        found = noted(
-            found,
-            breaks(rule, columns, &items[..i], name),
-            name.at,
-            rule,
-        );
+        let broken = is_faulty(fault, columns, &items[..i], name);
+        found = noted(found, broken, name.at, rule);
         i += 1;
         rest = after;
     }
@@ -176,7 +179,7 @@ fn check<N: Named>(
 
 // The first breach, of those found and of the rules of KEY.
 #[tactic(auto, using(crate::proofs::Breaches::folds))]
-fn check_key(
+pub(crate) fn check_key(
     columns: &[ColumnText],
     key: &Option<PlacedNames>,
     found: Option<Breach>,
@@ -186,13 +189,15 @@ fn check_key(
     match key {
         None => found,
         Some(names) => {
-            let found = check(Rule::KeyColumn, columns, names.as_slice(), found);
-            check(Rule::NullKey, columns, names.as_slice(), found)
+            let names = names.as_slice();
+            let found = check(Rule::KeyColumn, Fault::NoNewColumn, columns, names, found);
+            check(Rule::NullKey, Fault::Nullable, columns, names, found)
         }
     }
 }
 
-fn check_order(
+// The first breach, of those found and of the rule of ORDER.
+pub(crate) fn check_order(
     columns: &[ColumnText],
     order: &Option<PlacedNames>,
     found: Option<Breach>,
@@ -201,30 +206,12 @@ fn check_order(
 {
     match order {
         None => found,
-        Some(names) => check(Rule::KeyColumn, columns, names.as_slice(), found),
+        Some(names) => check(
+            Rule::KeyColumn,
+            Fault::NoNewColumn,
+            columns,
+            names.as_slice(),
+            found,
+        ),
     }
-}
-
-#[tactic(auto, using(crate::proofs::Breaches::folds))]
-fn check_table(table: &TableText, found: Option<Breach>) -> Option<Breach>
-    ensures { result ≡ fold earlier found (table_breaches table.now) }
-{
-    let columns = table.body.columns.as_slice();
-    let found = check(Rule::DoubleColumn, &[], columns, found);
-    let found = check_key(columns, &table.body.key, found);
-    check_order(columns, &table.body.order, found)
-}
-
-// The first breach of a rule.
-#[tactic(auto, using(crate::proofs::Breaches::folds, crate::proofs::Breaches::tables_step, crate::proofs::Breaches::tables_end))]
-pub(crate) fn first_breach(tables: &[TableText]) -> Option<Breach>
-    ensures { result ≡ first_breach tables.now }
-{
-    let mut found = check(Rule::DoubleTable, &[], tables, None);
-    let mut rest = tables;
-    'tables: while let Some((table, after)) = first(rest) {
-        found = check_table(table, found);
-        rest = after;
-    }
-    found
 }

@@ -1,31 +1,99 @@
-ghost use Rattle.std.specs.Prelude.{◌≡◌, true, false, drop, codes, MatchOption, IfOk, IfErr};
+//! The words and the other terminals of the grammar of schemas.
+ghost use Rattle.std.specs.Prelude.{◌≡◌};
 ghost use Rattle.std.specs.Str.{str_eq_ignore_ascii_case};
-ghost use Rattle.pm_lexer.specs.Symbol.{is};
-ghost use Rattle.pm_grammar.specs.Reading.{sees, token_at, place_of};
-ghost use Rattle.pm_schema.specs.declared.fault.ReadBad.TheVariants as bad;
-ghost use Rattle.pm_schema.specs.Terminals.{named, stands, word_of, word_named, is_key, is_found, spells_scale, is_scale_digit};
-ghost use Rattle.pm_schema.specs.Reading.{Gives, name_at};
+ghost use Rattle.pm_schema.specs.Terminals.{word_of, word_named, clause_word_of, spells_scale, is_scale_digit, is_clause, is_found};
 
-use crate::fault::ReadBad;
-use crate::tree::{PlacedName, Terminal, Word};
-use pm_lexer::{Symbol, Token, TokenKind, content};
-use std::alloc::Global;
+use pm_grammar::Terminal;
+use pm_lexer::{Symbol, Token, TokenKind};
 
-// Whether a token is this symbol.
-#[tactic(auto, unfolding(pm_lexer::specs::Symbol::same_symbol))]
-pub(crate) fn is(symbol: Symbol, token: &Token) -> bool
-    ensures { result ≡ is symbol token.now }
-{
-    Symbol::of(token) == symbol
+/// A word that is known by its position, in any case of its letters.
+#[derive(Clone, Copy, Debug, PartialEq, Eq)]
+pub enum Word {
+    Table,
+    Key,
+    References,
+    To,
+    Int,
+    Num,
+    Text,
+}
+
+/// A terminal of the grammar that is no symbol and no word: a word that begins a clause, which it does before a
+/// parenthesis; REFERENCES where no column may stand; any name; the digit of a scale.
+#[derive(Clone, Copy, Debug, PartialEq, Eq)]
+pub enum SchemaTerminal {
+    Clause(Word),
+    References,
+    Name,
+    Scale,
+}
+
+impl Terminal for Word {
+    ghost use Rattle.pm_schema.specs.Terminals.{is_word};
+
+    ghost accepts = { is_word };
+
+    fn accepts(self, token: &Token) -> bool {
+        is_found(self, plain_word(token))
+    }
+}
+
+impl Terminal for SchemaTerminal {
+    ghost use Rattle.pm_schema.specs.Terminals.{stands};
+
+    ghost accepts = { stands };
+
+    fn accepts(self, token: &Token) -> bool {
+        match self {
+            SchemaTerminal::Clause(word) => is_clause(word, token),
+            SchemaTerminal::References => {
+                is_clause(Word::References, token) || Word::References.accepts(token)
+            }
+            SchemaTerminal::Name => {
+                Symbol::Name.accepts(token)
+                    || is_clause(Word::Key, token)
+                    || is_clause(Word::References, token)
+            }
+            SchemaTerminal::Scale => is_scale(token),
+        }
+    }
 }
 
 // The word that a plain name is.
-pub(crate) fn word(token: &Token) -> Option<Word>
+fn plain_word(token: &Token) -> Option<Word>
     ensures { result ≡ word_of token.now }
 {
     match token.kind {
         TokenKind::Name => word_named(token.slice.bytes()),
         _ => None,
+    }
+}
+
+// The word that a reserved word is.
+fn clause_word(token: &Token) -> Option<Word>
+    ensures { result ≡ clause_word_of token.now }
+{
+    match token.kind {
+        TokenKind::Reserved => word_named(token.slice.bytes()),
+        _ => None,
+    }
+}
+
+// Whether a token begins the clause of this word.
+fn is_clause(word: Word, token: &Token) -> bool
+    ensures { result ≡ is_clause word token.now }
+{
+    Symbol::Other.accepts(token) && is_found(word, clause_word(token))
+}
+
+// Whether this word was found.
+#[tactic(auto, unfolding(crate::specs::Terminals::same_word))]
+fn is_found(word: Word, found: Option<Word>) -> bool
+    ensures { result ≡ is_found word found }
+{
+    match found {
+        Some(found) => found == word,
+        None => false,
     }
 }
 
@@ -37,6 +105,10 @@ fn word_named(slice: &[u8]) -> Option<Word>
         Some(Word::Table)
     } else if spells(slice, "KEY") {
         Some(Word::Key)
+    } else if spells(slice, "REFERENCES") {
+        Some(Word::References)
+    } else if spells(slice, "TO") {
+        Some(Word::To)
     } else if spells(slice, "INT") {
         Some(Word::Int)
     } else if spells(slice, "NUM") {
@@ -53,31 +125,6 @@ fn spells(bytes: &[u8], text: &str) -> bool
     ensures { result ≡ str_eq_ignore_ascii_case bytes.now text.now }
 {
     bytes.eq_ignore_ascii_case(text.as_bytes())
-}
-
-// Whether a token is this word.
-pub(crate) fn is_word(expected: Word, token: &Token) -> bool
-    ensures { result ≡ is_found expected (word_of token.now) }
-{
-    match (word(token), expected) {
-        (Some(Word::Table), Word::Table) => true,
-        (Some(Word::Key), Word::Key) => true,
-        (Some(Word::Int), Word::Int) => true,
-        (Some(Word::Num), Word::Num) => true,
-        (Some(Word::Text), Word::Text) => true,
-        _ => false,
-    }
-}
-
-// Whether a token is KEY as a reserved word.
-fn is_key(token: &Token) -> bool
-    ensures { result ≡ is_key token.now }
-{
-    is(Symbol::Other, token)
-        && match token.kind {
-            TokenKind::Reserved => spells(token.slice.bytes(), "KEY"),
-            _ => false,
-        }
 }
 
 // Whether a token is one digit from 1 to 6.
@@ -97,82 +144,4 @@ fn is_scale_digit(slice: &[u8]) -> bool
         [digit] => *digit >= b'1' && *digit <= b'6',
         _ => false,
     }
-}
-
-// Whether a token is this terminal.
-pub(crate) fn stands(terminal: Terminal, token: &Token) -> bool
-    ensures { result ≡ stands terminal token.now }
-{
-    match terminal {
-        Terminal::Symbol(symbol) => is(symbol, token),
-        Terminal::Word(word) => is_word(word, token),
-        Terminal::Key => is_key(token),
-        Terminal::Name => is(Symbol::Name, token) || is_key(token),
-        Terminal::Scale => is_scale(token),
-    }
-}
-
-// The place where the tokens go on.
-pub(crate) fn place(tokens: &[Token]) -> u64
-    ensures { result ≡ place_of tokens.now }
-{
-    match tokens {
-        [] => 0,
-        [token, ..] => token.at,
-    }
-}
-
-// Whether this terminal comes next.
-pub(crate) fn sees(terminal: Terminal, tokens: &[Token]) -> bool
-    ensures { result ≡ sees (stands terminal) tokens.now }
-{
-    match tokens {
-        [] => false,
-        [token, ..] => stands(terminal, token),
-    }
-}
-
-// What follows this terminal, if it comes next.
-pub(crate) fn behind(terminal: Terminal, tokens: &[Token]) -> Option<&[Token]>
-    ensures { MatchOption result (sees (stands terminal) tokens.now ≡ false) (λ rest. (sees (stands terminal) tokens.now ≡ true) × (rest.now ≡ drop 1 tokens.now)) }
-{
-    match tokens {
-        [token, rest @ ..] if stands(terminal, token) => Some(rest),
-        _ => None,
-    }
-}
-
-// The token of this terminal, and what follows it.
-pub(crate) fn token(terminal: Terminal, tokens: &[Token]) -> Result<(&Token, &[Token]), ReadBad>
-    ensures { Gives (λ x. (x.0.now, x.1.now)) result (token_at (stands terminal) tokens.now) }
-{
-    match tokens {
-        [] => Err(ReadBad::Expected(0)),
-        [token, rest @ ..] => {
-            if stands(terminal, token) {
-                Ok((token, rest))
-            } else {
-                Err(ReadBad::Expected(token.at))
-            }
-        }
-    }
-}
-
-// A name and its place.
-pub(crate) fn placed(alloc: Global, token: &Token) -> Result<PlacedName, ReadBad>
-    ensures ok { IfOk result (λ name. name ≡ named token.now) }
-    ensures err { IfErr result (λ e. e ≡ bad.Memory) }
-{
-    let text = content(alloc, token)?;
-    let at = token.at;
-    Ok(PlacedName { text, at })
-}
-
-#[tactic(auto, unfolding(crate::specs::Reading::name_at))]
-pub(crate) fn name(alloc: Global, tokens: &[Token]) -> Result<(PlacedName, &[Token]), ReadBad>
-    ensures { Gives (λ x. (x.0, x.1.now)) result (name_at tokens.now) }
-{
-    let (first, rest) = token(Terminal::Name, tokens)?;
-    let name = placed(alloc, first)?;
-    Ok((name, rest))
 }

@@ -1,76 +1,86 @@
-use super::*;
+//! Texts of schemas and their answers.
+use crate::{SchemaBad, read_schema};
 use pm_lexer::lex;
-use pm_values::{Kind, Txt};
+use pm_values::Txt;
+use std::alloc::{AllocError, Global};
 use std::test::Fail;
+
+// How many tables a text declares, or its refusal. Its own refusals by the lexer have no place here.
+fn answer(alloc: Global, text: &str) -> Result<Result<usize, SchemaBad>, AllocError> {
+    let text = Txt::new(alloc, text)?;
+    let Ok(tokens) = lex(alloc, &text) else {
+        return Ok(Err(SchemaBad::Memory));
+    };
+    let answer = read_schema(alloc, &tokens);
+    Ok(answer.map(|schema| schema.len()))
+}
 
 #[test]
 fn schemas_are_read(rt: HostRuntime) -> Result<(), Fail> {
-    let alloc = rt.alloc();
     let cases = [
         (
             "TABLE t FROM 't.csv' (a INT, KEY (a));",
-            Some(SchemaBad::NullKey(34)),
+            Err(SchemaBad::NullKey(34)),
         ),
-        ("", Some(SchemaBad::Expected(0))),
-        ("TABLE t FROM 'f' (key INT NOT NULL, KEY (key));", None),
-        (
-            "TABLE t FROM 'f' (a INT, KEY TEXT, Key (KEY));",
-            Some(SchemaBad::NullKey(40)),
-        ),
-        (
-            "TABLE t FROM 'f' (a NUM(7));",
-            Some(SchemaBad::Expected(24)),
-        ),
-        (
-            "TABLE t FROM 'f' (a INT, ORDER (a), KEY (a));",
-            Some(SchemaBad::Expected(34)),
-        ),
-        (
-            "TABLE t FROM 'f' (a INT, a TEXT, ORDER (b));",
-            Some(SchemaBad::DoubleColumn(25)),
-        ),
+        ("", Err(SchemaBad::Expected(0))),
+        ("TABLE t FROM 'f' (key INT NOT NULL, KEY (key));", Ok(1)),
+        ("TABLE t FROM 'f' (a NUM(7));", Err(SchemaBad::Expected(24))),
         (
             "TABLE t FROM 'f' (a INT, ORDER (b, a, a));",
-            Some(SchemaBad::KeyColumn(32)),
+            Err(SchemaBad::KeyColumn(32)),
         ),
         (
             "TABLE t FROM 'f' (a INT); TABLE t FROM 'g' (a INT);",
-            Some(SchemaBad::DoubleTable(32)),
+            Err(SchemaBad::DoubleTable(32)),
         ),
         (
             "TABLE t FROM 'f' (a INT, ORDER (a,a,a,a,a,a,a,a,a));",
-            Some(SchemaBad::TooMany(48)),
+            Err(SchemaBad::TooMany(48)),
         ),
         (
-            "TABLE t FROM 'f' (a INT); TABLE t FROM 'g' (a INT)",
-            Some(SchemaBad::Expected(50)),
+            "TABLE t FROM 't.csv' (a INT NOT NULL, REFERENCES (a) TO u (a));",
+            Err(SchemaBad::RefTable(56)),
         ),
     ];
     for (text, want) in cases {
-        let text = Txt::new(alloc, text)?;
-        let tokens = lex(alloc, &text)?;
-        let answer = read_schema(alloc, &tokens);
-        assert_eq!(rt; answer.as_ref().err().copied(), want, "{}", text.as_str());
+        assert_eq!(rt; answer(rt.alloc(), text)?, want, "{text}");
     }
     Ok(())
 }
 
+// A schema of so many tables, of so many columns c0, c1, .. NOT NULL with KEY on the last, each with so many references
+// to itself.
+fn wide(
+    alloc: Global,
+    tables: usize,
+    columns: usize,
+    references: usize,
+) -> Result<String, AllocError> {
+    let mut text = String::new(alloc);
+    for t in 0..tables {
+        text.push_str(format!(in alloc; "TABLE t{t} FROM 'f' (")?.as_str())?;
+        for c in 0..columns {
+            text.push_str(format!(in alloc; "c{c} INT NOT NULL, ")?.as_str())?;
+        }
+        let last = columns.saturating_sub(1);
+        text.push_str(format!(in alloc; "KEY (c{last})")?.as_str())?;
+        for _ in 0..references {
+            let clause = format!(in alloc; ", REFERENCES (c{last}) TO t{t} (c{last})")?;
+            text.push_str(clause.as_str())?;
+        }
+        text.push_str(");")?;
+    }
+    Ok(text)
+}
+
 #[test]
-fn names_lose_their_quotes(rt: HostRuntime) -> Result<(), Fail> {
-    let alloc = rt.alloc();
-    let text = Txt::new(
-        alloc,
-        "table \"a\"\"b\" from 'it''s.csv' (x int not null, y num(3), key (x), order (y, x));",
-    )?;
-    let tokens = lex(alloc, &text)?;
-    let schema = read_schema(alloc, &tokens)?;
-    let table = schema.as_slice().first().ok_or("no table")?;
-    let second = table.columns().as_slice().get(1).ok_or("no column")?;
-    let order = table.order().ok_or("no order")?;
-    assert_eq!(rt; table.name().as_str(), "a\"b");
-    assert_eq!(rt; table.file().as_str(), "it's.csv");
-    assert_eq!(rt; second.kind, Kind::Num(3));
-    assert_eq!(rt; second.nullable, true);
-    assert_eq!(rt; order.as_slice() == [1, 0].as_slice(), true);
+fn the_largest_schema_is_read(rt: HostRuntime) -> Result<(), Fail> {
+    let largest = wide(rt.alloc(), 64, 64, 8)?;
+    assert_eq!(rt; answer(rt.alloc(), largest.as_str())?, Ok(64));
+    let ninth = wide(rt.alloc(), 1, 1, 9)?;
+    assert_eq!(rt;
+        answer(rt.alloc(), ninth.as_str())?,
+        Err(SchemaBad::TooMany(270))
+    );
     Ok(())
 }

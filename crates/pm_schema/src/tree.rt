@@ -1,35 +1,6 @@
-use pm_lexer::Symbol;
+//! What the texts of tables say.
+use pm_grammar::{PlacedName, PlacedNames};
 use pm_values::{Items, Kind, Txt};
-
-/// A word that is known by its position, in any case of its letters.
-#[derive(Clone, Copy, Debug, PartialEq, Eq)]
-pub enum Word {
-    Table,
-    Key,
-    Int,
-    Num,
-    Text,
-}
-
-/// A terminal of the grammar: a symbol, a word, KEY before a parenthesis, any name, or the digit of a scale.
-#[derive(Clone, Copy, Debug, PartialEq, Eq)]
-pub enum Terminal {
-    Symbol(Symbol),
-    Word(Word),
-    Key,
-    Name,
-    Scale,
-}
-
-/// A name without its outer quotes, each doubled quote once, and its place, a byte offset from 0.
-#[derive(Debug, Drop)]
-pub struct PlacedName {
-    pub text: Txt,
-    pub at: u64,
-}
-
-/// A list of names.
-pub type PlacedNames = Items<PlacedName>;
 
 /// A column as its text declares it.
 #[derive(Debug, Drop)]
@@ -42,12 +13,24 @@ pub struct ColumnText {
 /// A list of columns.
 pub type ColumnTexts = Items<ColumnText>;
 
-/// What stands between the parentheses of a table: its columns, and the names in KEY and in ORDER.
+/// A reference as its text declares it: columns of the table, the table after TO, and columns of that one.
+#[derive(Debug, Drop)]
+pub struct ReferenceText {
+    pub columns: PlacedNames,
+    pub target: PlacedName,
+    pub keys: PlacedNames,
+}
+
+/// A list of references.
+pub type ReferenceTexts = Items<ReferenceText>;
+
+/// What stands between the parentheses of a table: its columns, the names in KEY and in ORDER, and its references.
 #[derive(Debug, Drop)]
 pub struct Body {
     pub columns: ColumnTexts,
     pub key: Option<PlacedNames>,
     pub order: Option<PlacedNames>,
+    pub references: ReferenceTexts,
 }
 
 /// A table as its text declares it.

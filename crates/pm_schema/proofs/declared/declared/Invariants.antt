@@ -1,11 +1,12 @@
 use Rattle.std.proofs.Common.{◌≡◌, ◌++◌, length, map}
-use Rattle.pm_schema.specs.Meaning.{AreSound, declared_table}
+use Rattle.std.specs.Prelude.{All}
+use Rattle.pm_schema.specs.Meaning.{IsSound, declared_table}
 use Rattle.pm_schema.proofs.declared.declared.Given as goal
 
 abbrev pub invariant-tables : goal.invariant-tables
 invariant-tables l = record {
-  walked : l.decls ++ map declared_table l.rest ≡ map declared_table l.initial.tables;
-  sound : AreSound l.rest;
+  walked : l.decls ++ map (declared_table l.tables) l.rest ≡ map (declared_table l.tables) l.tables;
+  sound : All (IsSound l.tables) l.rest;
 }
 
 abbrev pub decreases-tables : goal.decreases-tables
