@@ -12,4 +12,5 @@ pub mod Sets
 pub mod Helpers
 pub mod Symbols
 pub mod Clauses
+pub mod Productions
 pub mod Yields

@@ -1,18 +1,20 @@
--- The readers of names, columns, expressions and literals read their productions.
-use Rattle.std.proofs.Common.{◌≡◌, ◌⊎◌, ℕ, Bool, true, false, List, [], ◌∷◌, drop, Ok, Some, None, refl, sym, inl, inr, if◌then◌else◌, ◌&&◌, is_some, unwrap_or, pos, neg_ℤ}
+-- Names, columns, expressions, literals and operands: their productions.
+use Rattle.std.proofs.Common.{◌≡◌, ◌⊎◌, ℕ, Bool, true, false, List, [], ◌∷◌, Some, None, refl, inl, inr, ◌||◌, is_some, unwrap_or, pos, neg_ℤ}
 use Rattle.pm_lexer.specs.declared.token.Token.{Token}
 use Rattle.pm_lexer.specs.declared.token.TokenKind.{TokenKind}
 use Rattle.pm_lexer.specs.declared.token.TokenKind.TheVariants as kind
+use Rattle.pm_lexer.specs.declared.symbol.Symbol.{Symbol}
 use Rattle.pm_lexer.specs.declared.symbol.Symbol.TheVariants as symbol
 use Rattle.pm_lexer.specs.Symbol.{symbol_of, symbol_at, same_symbol, is}
 use Rattle.pm_lexer.specs.Pieces.{content_of, decimals_len}
 use Rattle.pm_grammar.specs.Language.{Gate, Is}
-use Rattle.pm_grammar.specs.Reading.{◌>>=◌, sees, token_at}
-use Rattle.pm_grammar.proofs.Phrases.{Phrase, Next, Reader, Nothing, NotOther, Began}
-use Rattle.pm_grammar.proofs.Readers.{Then, Or, Same, pure_reader, then_reader, same_reader, same_began, map_reader}
-use Rattle.pm_grammar.proofs.Firsts.{BeginsWith, bars, not_both}
-use Rattle.pm_grammar.proofs.Furthers.{choice_reader, behind_reader, optional_reader}
+use Rattle.pm_grammar.specs.Reading.{named, name_at}
 use Rattle.pm_grammar.specs.declared.names.PlacedName.{PlacedName}
+use Rattle.pm_grammar.proofs.Phrases.{Phrase, Next, Began}
+use Rattle.pm_grammar.proofs.Readers.{Then, Or, Same, same_began, first_began, second_began}
+use Rattle.pm_grammar.proofs.Helpers.{token_began}
+use Rattle.pm_grammar.proofs.Symbols.{sample, sample_is}
+use Rattle.pm_grammar.proofs.Sets.{AnyOf}
 use Rattle.pm_syntax.specs.declared.tree.ColumnName.{ColumnName}
 use Rattle.pm_syntax.specs.declared.tree.Func.TheVariants as func
 use Rattle.pm_syntax.specs.declared.tree.Expr.{Expr}
@@ -21,31 +23,26 @@ use Rattle.pm_syntax.specs.declared.tree.Literal.{Literal}
 use Rattle.pm_syntax.specs.declared.tree.Literal.TheVariants as literal
 use Rattle.pm_syntax.specs.declared.tree.Atom.{Atom}
 use Rattle.pm_syntax.specs.declared.tree.Atom.TheVariants as atom
-use Rattle.pm_grammar.specs.Reading.{named, name_at}
-use Rattle.pm_syntax.specs.Terminals.{func_of, func_of_kind, magnitude}
+use Rattle.pm_syntax.specs.Terminals.{func_of, func_of_kind, magnitude, begins_literal, begins_test}
 use Rattle.pm_syntax.specs.Grammar.{IsName, IsColumn, counts, is_count, IsCountAll, IsCall, IsExpr, IsLiteral, IsTerm, IsOperand}
 use Rattle.pm_syntax.specs.Reading.{column_after, column_at, call_after, expr_after, expr_at, literal_at, term_at, operand_at}
-use Rattle.pm_grammar.proofs.Symbols.{sample, sample_is, symbol_reader}
-use Rattle.pm_grammar.proofs.Helpers.{token_began}
-use Rattle.pm_grammar.proofs.Sets.{AnyOf, widened, none_other, apart}
+use Rattle.pm_grammar.proofs.Productions.{Production, done, symbol_then, mapped, followed, wider, same, choose, after, optional, guarded}
 
-pub name_reader : (S : Token → Type 0) (d : ℕ) → Reader S (λ _ _. IsName) d (name_at (is symbol.Name))
+pub names : {ends : List Symbol} (d : ℕ) → Production false (symbol.Name ∷ []) ends (λ _ _. IsName) d (name_at (is symbol.Name))
 unfolding name_at same_symbol
-name_reader S d = symbol_reader S symbol.Name refl _ d _ (λ t. pure_reader S d (named t))
+names d = symbol_then symbol.Name refl (λ t. done (named t))
 
--- behind a column's first name
+-- column = name [ "." name ]
 abbrev pub ColumnAfter : PlacedName → Phrase ColumnName
 ColumnAfter first _ _ next ts = next (record { alias = None; name = first }) ts ⊎ Is (is symbol.Point) (λ _. IsName (λ name. next (record { alias = Some first; name = name }))) ts
 
-pub column_after_reader : (S : Token → Type 0) → ((t : Token) → is symbol.Point t ≡ true → S t) → (first : PlacedName) (d : ℕ) → Reader S (ColumnAfter first) d (column_after first)
+columns_after : (first : PlacedName) (d : ℕ) → Production true (symbol.Point ∷ []) (symbol.Point ∷ []) (ColumnAfter first) d (column_after first)
 unfolding column_after same_symbol
-column_after_reader S inS first d =
-    optional_reader S (is symbol.Point) (sample symbol.Point) (sample_is symbol.Point refl) (λ _ _ next. IsName (λ name. next (record { alias = Some first; name = name }))) (record { alias = None; name = first }) d _
-    (map_reader S (λ _ _. IsName) (λ name. record { alias = Some first; name = name }) d (name_at (is symbol.Name)) (name_reader S d)) inS
+columns_after first d = optional symbol.Point refl (record { alias = None; name = first }) (mapped {P = λ _ _. IsName} (λ name. record { alias = Some first; name = name }) (names d)) refl
 
-pub column_reader : (S : Token → Type 0) → ((t : Token) → is symbol.Point t ≡ true → S t) → (d : ℕ) → Reader S (λ _ _. IsColumn) d column_at
-unfolding column_at
-column_reader S inS d = then_reader S Nothing (λ _ _. IsName) ColumnAfter d (name_at (is symbol.Name)) _ (name_reader Nothing d) (λ first. column_after_reader S inS first d) (λ a d' g next avoids t ts s h. s)
+pub columns : (d : ℕ) → Production false (symbol.Name ∷ []) (symbol.Point ∷ []) (λ _ _. IsColumn) d column_at
+unfolding column_at same_symbol
+columns d = followed {first_ends = []} {P = λ _ _. IsName} {Q = ColumnAfter} _ (names d) (λ first. columns_after first d) refl refl
 
 -- a function's name is a name
 func_is_name : (t : Token) → is_some (func_of t) ≡ true → is symbol.Name t ≡ true
@@ -64,71 +61,41 @@ func_is_name t e = of_kind t.kind e
 counts_is_func : (t : Token) → counts t ≡ true → is_some (func_of t) ≡ true
 counts_is_func t e = elim (func_of t) as (λ f. is_count f ≡ true → is_some f ≡ true) [ None ↦ λ e. absurd (cc e) | Some f ↦ λ _. refl ] e
 
--- behind a function and its parenthesis
-abbrev pub CountsAll : Token → Phrase Expr
+-- after a function and its parenthesis
+abbrev CountsAll : Token → Phrase Expr
 CountsAll f _ _ next = Is (is symbol.Star) (λ _. Is (is symbol.Close) (λ _. next (expr.CountAll f.at)))
 
-abbrev pub CallsColumn : Token → Phrase Expr
+abbrev CallsColumn : Token → Phrase Expr
 CallsColumn f _ _ next = IsColumn (λ column. Is (is symbol.Close) (λ _. next (expr.Call (unwrap_or (func_of f) func.Count) column f.at)))
 
-abbrev pub CallAfter : Token → Phrase Expr
+abbrev CallAfter : Token → Phrase Expr
 CallAfter f d g next ts = CallsColumn f d g next ts ⊎ ((counts f ≡ true) × CountsAll f d g next ts)
 
-calls_begins : (f : Token) → BeginsWith (CallsColumn f) (λ t. is symbol.Name t ≡ true)
-calls_begins f d g next [] h = h
-calls_begins f d g next (t ∷ ts) h = h.0
-
-abbrev pub PointOnly : Token → Type 0
-PointOnly = AnyOf (symbol.Point ∷ [])
-
-calls_column_reader : (S : Token → Type 0) (f : Token) (d : ℕ) → Reader S (CallsColumn f) d (λ ts. column_at ts >>= λ column. token_at (is symbol.Close) column.1 >>= λ close. Ok (expr.Call (unwrap_or (func_of f) func.Count) column.0 f.at, close.1))
-unfolding same_symbol
-calls_column_reader S f d =
-    then_reader S PointOnly (λ _ _. IsColumn) (λ column _ _ next. Is (is symbol.Close) (λ _. next (expr.Call (unwrap_or (func_of f) func.Count) column f.at))) d column_at _ (column_reader PointOnly (λ t e. inl e) d)
-    (λ column. symbol_reader S symbol.Close refl _ d _ (λ _. pure_reader S d (expr.Call (unwrap_or (func_of f) func.Count) column f.at)))
-    (λ a d' g next avoids t ts s h. elim s [ inl e ↦ not_both symbol.Point symbol.Close t refl e h.0 | inr none ↦ none ])
-
-call_reader : (S : Token → Type 0) (f : Token) (d : ℕ) → Reader S (CallAfter f) d (call_after f)
+calls_after : {ends : List Symbol} (f : Token) (d : ℕ) → Production false (symbol.Star ∷ symbol.Name ∷ []) ends (CallAfter f) d (call_after f)
 unfolding call_after same_symbol
-call_reader S f d =
-    elim (counts f) as (λ b. counts f ≡ b → Reader S (λ d g next ts. CallsColumn f d g next ts ⊎ ((b ≡ true) × CountsAll f d g next ts)) d (λ ts.
-    if b && sees (is symbol.Star) ts then (token_at (is symbol.Close) (drop 1 ts) >>= λ close. Ok (expr.CountAll f.at, close.1))
-    else (column_at ts >>= λ column. token_at (is symbol.Close) column.1 >>= λ close. Ok (expr.Call (unwrap_or (func_of f) func.Count) column.0 f.at, close.1)))) [
-      | true ↦ λ _. same_reader S (Or (CallsColumn f) (CountsAll f)) _ d _ (record { to = λ d g next ts h. elim h [ inl c ↦ inl c | inr a ↦ inr (refl, a) ]; from = λ d g next ts h. elim h [ inl c ↦ inl c | inr a ↦ inr a.1 ] })
-          (behind_reader S (is symbol.Star) (sample symbol.Star) (sample_is symbol.Star refl) (λ _ _ next. Is (is symbol.Close) (λ _. next (expr.CountAll f.at))) (CallsColumn f) d _ _
-          (symbol_reader S symbol.Close refl _ d _ (λ _. pure_reader S d (expr.CountAll f.at))) (calls_column_reader S f d)
-          (bars S (CallsColumn f) (λ t. is symbol.Name t ≡ true) (is symbol.Star) (calls_begins f) (λ t e n. not_both symbol.Star symbol.Name t refl e n)))
-      | false ↦ λ _. same_reader S (CallsColumn f) _ d _ (record { to = λ d g next ts h. inl h; from = λ d g next ts h. elim h [ inl c ↦ c | inr a ↦ absurd (cc a.0) ] }) (calls_column_reader S f d)
-    ] refl
+calls_after f d =
+    guarded (counts f) symbol.Star refl (symbol_then symbol.Close refl (λ _. done (expr.CountAll f.at)))
+    (followed {P = λ _ _. IsColumn} {Q = λ column _ _ next. Is (is symbol.Close) (λ _. next (expr.Call (unwrap_or (func_of f) func.Count) column f.at))} _ (columns d)
+    (λ column. symbol_then symbol.Close refl (λ _. done (expr.Call (unwrap_or (func_of f) func.Count) column f.at))) refl refl) refl refl
 
--- behind the first name of an expression
-abbrev pub Columned : Token → Phrase Expr
+-- after the first name of an expression
+abbrev Columned : Token → Phrase Expr
 Columned first d g next = ColumnAfter (named first) d g (λ column. next (expr.Column column))
 
-abbrev pub Called : Token → Phrase Expr
+abbrev Called : Token → Phrase Expr
 Called first = Then (λ _ _. Is (is symbol.Open)) (λ _. CallAfter first)
 
-abbrev pub ExprAfter : Token → Phrase Expr
+abbrev ExprAfter : Token → Phrase Expr
 ExprAfter first d g next ts = Columned first d g next ts ⊎ ((is_some (func_of first) ≡ true) × Called first d g next ts)
 
-expr_after_reader : (S : Token → Type 0) → ((t : Token) → is symbol.Point t ≡ true → S t) → ((t : Token) → is symbol.Open t ≡ true → S t) → (first : Token) (d : ℕ) → Reader S (ExprAfter first) d (expr_after first)
+abbrev pub expr_ends : List Symbol
+expr_ends = symbol.Point ∷ symbol.Open ∷ []
+
+exprs_after : (first : Token) (d : ℕ) → Production true (symbol.Open ∷ symbol.Point ∷ []) expr_ends (ExprAfter first) d (expr_after first)
 unfolding expr_after same_symbol
-expr_after_reader S point paren first d =
-    let columns : Reader S (Columned first) d (λ ts. column_after (named first) ts >>= λ column. Ok (expr.Column column.0, column.1)) =
-    map_reader S (ColumnAfter (named first)) (λ column. expr.Column column) d _ (column_after_reader S point (named first) d) in
-    elim (is_some (func_of first)) as (λ b. is_some (func_of first) ≡ b → Reader S (λ d g next ts. Columned first d g next ts ⊎ ((b ≡ true) × Called first d g next ts)) d (λ ts.
-    if b && sees (is symbol.Open) ts then call_after first (drop 1 ts) else (column_after (named first) ts >>= λ column. Ok (expr.Column column.0, column.1)))) [
-      | true ↦ λ _. same_reader S (Or (Columned first) (Called first)) _ d _ (record { to = λ d g next ts h. elim h [ inl c ↦ inl c | inr a ↦ inr (refl, a) ]; from = λ d g next ts h. elim h [ inl c ↦ inl c | inr a ↦ inr a.1 ] })
-          (behind_reader S (is symbol.Open) (sample symbol.Open) (sample_is symbol.Open refl) (CallAfter first) (Columned first) d _ _ (call_reader S first d) columns (λ ts e d' g next w avoids heads h. column_stops ts e d' g next w avoids heads h))
-      | false ↦ λ _. same_reader S (Columned first) _ d _ (record { to = λ d g next ts h. inl h; from = λ d g next ts h. elim h [ inl c ↦ c | inr a ↦ absurd (cc a.0) ] }) columns
-    ] refl
-  where
-    column_stops : (ts : List Token) → sees (is symbol.Open) ts ≡ true → NotOther S (Columned first) ts
-    column_stops [] e d' g next w avoids heads h = absurd (let bad : false ≡ true = e in cc)
-    column_stops (t ∷ ts) e d' g next [] avoids heads h = heads
-    column_stops (t ∷ ts) e d' g next (u ∷ us) avoids heads h =
-        let here : is symbol.Open u ≡ true = rw (sym heads) at e in
-        elim h [ inl n ↦ avoids _ u us (paren u here) n | inr p ↦ not_both symbol.Open symbol.Point u refl here p.0 ]
+exprs_after first d =
+    guarded (is_some (func_of first)) symbol.Open refl (calls_after first d)
+    (wider (symbol.Point ∷ []) expr_ends refl (mapped {P = ColumnAfter (named first)} (λ column. expr.Column column) (columns_after (named first) d))) refl refl
 
 -- expr = column | COUNT "(" "*" ")" | func "(" column ")"
 expr_to : (d : ℕ) (g : Gate) (next : Next Expr) (ts : List Token) → Then (λ _ _. Is (is symbol.Name)) ExprAfter d g next ts → IsExpr next ts
@@ -160,143 +127,121 @@ expr_from d g next (t ∷ ts) h = elim h [
     one [] c = absurd c
     one (u ∷ us) c = (c.0, inl c.1)
 
-pub expr_reader : (S : Token → Type 0) → ((t : Token) → is symbol.Point t ≡ true → S t) → ((t : Token) → is symbol.Open t ≡ true → S t) → (d : ℕ) → Reader S (λ _ _. IsExpr) d expr_at
+pub exprs : (d : ℕ) → Production false (symbol.Name ∷ []) expr_ends (λ _ _. IsExpr) d expr_at
 unfolding expr_at same_symbol
-expr_reader S point paren d =
-    same_reader S (Then (λ _ _. Is (is symbol.Name)) ExprAfter) _ d _ (record { to = expr_to; from = expr_from })
-    (symbol_reader S symbol.Name refl _ d _ (λ first. expr_after_reader S point paren first d))
-
-pub expr_begins : BeginsWith (λ _ _. IsExpr) (λ t. is symbol.Name t ≡ true)
-expr_begins d g next [] h = elim h [ inl c ↦ c | inr o ↦ elim o [ inl a ↦ a | inr c ↦ c ] ]
-expr_begins d g next (t ∷ ts) h = elim h [ inl c ↦ c.0 | inr o ↦ elim o [ inl a ↦ func_is_name t (counts_is_func t a.0) | inr c ↦ func_is_name t c.0 ] ]
+exprs d = same {P = Then (λ _ _. Is (is symbol.Name)) ExprAfter} (record { to = expr_to; from = expr_from }) (symbol_then symbol.Name refl (λ first. exprs_after first d))
 
 -- literal = [ "-" ] number | text | NULL
-abbrev pub Plain : Phrase Literal
+abbrev Plain : Phrase Literal
 Plain _ _ next = Is (is symbol.Number) (λ n. next (literal.Number (pos (magnitude n)) (decimals_len n.slice)))
 
-abbrev pub Negative : Phrase Literal
+abbrev Negative : Phrase Literal
 Negative _ _ next = Is (is symbol.Number) (λ n. next (literal.Number (neg_ℤ (pos (magnitude n))) (decimals_len n.slice)))
 
-abbrev pub Texts : Phrase Literal
+abbrev Texts : Phrase Literal
 Texts _ _ next = Is (is symbol.Text) (λ text. next (literal.Text (content_of text)))
 
-abbrev pub Nulls : Phrase Literal
+abbrev Nulls : Phrase Literal
 Nulls _ _ next = next literal.Null
 
-abbrev pub NullOr : Phrase Literal
-NullOr = Or Plain (Then (λ _ _. Is (is symbol.Null)) (λ _. Nulls))
-
-abbrev pub TextOr : Phrase Literal
-TextOr = Or Texts NullOr
-
-abbrev pub MinusOr : Phrase Literal
-MinusOr = Or TextOr (Then (λ _ _. Is (is symbol.Minus)) (λ _. Negative))
-
-pub literal_same : Same MinusOr (λ _ _. IsLiteral)
+literal_same : Same (Or (Then (λ _ _. Is (is symbol.Minus)) (λ _. Negative)) (Or Texts (Or (Then (λ _ _. Is (is symbol.Null)) (λ _. Nulls)) Plain))) (λ _ _. IsLiteral)
 literal_same = record {
-  to = λ d g next ts h. elim h [
-    | inl rest ↦ elim rest [ inl text ↦ inr (inr (inl text)) | inr more ↦ elim more [ inl plain ↦ inl plain | inr null ↦ inr (inr (inr null)) ] ]
-    | inr negative ↦ inr (inl negative)
-  ];
-  from = λ d g next ts h. elim h [
-    | inl plain ↦ inl (inr (inl plain))
-    | inr rest ↦ elim rest [ inl negative ↦ inr negative | inr more ↦ elim more [ inl text ↦ inl (inl text) | inr null ↦ inl (inr (inr null)) ] ]
-  ];
+  to = λ d g next ts h. elim h [ inl n ↦ inr (inl n) | inr o ↦ elim o [ inl t ↦ inr (inr (inl t)) | inr p ↦ elim p [ inl u ↦ inr (inr (inr u)) | inr n ↦ inl n ] ] ];
+  from = λ d g next ts h. elim h [ inl n ↦ inr (inr (inr n)) | inr o ↦ elim o [ inl n ↦ inl n | inr p ↦ elim p [ inl t ↦ inr (inl t) | inr u ↦ inr (inr (inl u)) ] ] ];
 }
 
-plain_begins : BeginsWith Plain (AnyOf (symbol.Number ∷ []))
-plain_begins d g next [] h = h
-plain_begins d g next (t ∷ ts) h = inl h.0
+abbrev pub literal_firsts : List Symbol
+literal_firsts = symbol.Minus ∷ symbol.Text ∷ symbol.Null ∷ symbol.Number ∷ []
 
-null_or_begins : BeginsWith NullOr (AnyOf (symbol.Number ∷ symbol.Null ∷ []))
-null_or_begins d g next [] h = elim h [ inl p ↦ p | inr n ↦ n ]
-null_or_begins d g next (t ∷ ts) h = elim h [ inl p ↦ inl p.0 | inr n ↦ inr (inl n.0) ]
-
-texts_begins : BeginsWith Texts (AnyOf (symbol.Text ∷ []))
-texts_begins d g next [] h = h
-texts_begins d g next (t ∷ ts) h = inl h.0
-
-text_or_begins : BeginsWith TextOr (AnyOf (symbol.Text ∷ symbol.Number ∷ symbol.Null ∷ []))
-text_or_begins d g next [] h = elim h [ inl x ↦ x | inr r ↦ elim r [ inl p ↦ p | inr n ↦ n ] ]
-text_or_begins d g next (t ∷ ts) h = elim h [ inl x ↦ inl x.0 | inr r ↦ elim r [ inl p ↦ inr (inl p.0) | inr n ↦ inr (inr (inl n.0)) ] ]
-
--- the tokens that begin a literal
-abbrev pub LiteralFirst : Token → Type 0
-LiteralFirst = AnyOf (symbol.Minus ∷ symbol.Text ∷ symbol.Null ∷ symbol.Number ∷ [])
-
-pub literal_begins : BeginsWith (λ _ _. IsLiteral) LiteralFirst
-literal_begins d g next [] h = elim h [ inl p ↦ p | inr r ↦ elim r [ inl n ↦ n | inr m ↦ elim m [ inl x ↦ x | inr u ↦ u ] ] ]
-literal_begins d g next (t ∷ ts) h = elim h [ inl p ↦ inr (inr (inr (inl p.0))) | inr r ↦ elim r [ inl n ↦ inl n.0 | inr m ↦ elim m [ inl x ↦ inr (inl x.0) | inr u ↦ inr (inr (inl u.0)) ] ] ]
-
-pub literal_reader : (S : Token → Type 0) (d : ℕ) → Reader S (λ _ _. IsLiteral) d literal_at
+pub literals : {ends : List Symbol} (d : ℕ) → Production false literal_firsts ends (λ _ _. IsLiteral) d literal_at
 unfolding literal_at same_symbol
-literal_reader S d =
-    let plain : Reader S Plain d (λ ts. token_at (is symbol.Number) ts >>= λ n. Ok (literal.Number (pos (magnitude n.0)) (decimals_len n.0.slice), n.1)) =
-    symbol_reader S symbol.Number refl _ d _ (λ n. pure_reader S d (literal.Number (pos (magnitude n)) (decimals_len n.slice))) in
-    let negative : Reader S Negative d (λ ts. token_at (is symbol.Number) ts >>= λ n. Ok (literal.Number (neg_ℤ (pos (magnitude n.0))) (decimals_len n.0.slice), n.1)) =
-    symbol_reader S symbol.Number refl _ d _ (λ n. pure_reader S d (literal.Number (neg_ℤ (pos (magnitude n))) (decimals_len n.slice))) in
-    let texts : Reader S Texts d (λ ts. token_at (is symbol.Text) ts >>= λ text. Ok (literal.Text (content_of text.0), text.1)) =
-    symbol_reader S symbol.Text refl _ d _ (λ text. pure_reader S d (literal.Text (content_of text))) in
-    let null_or = behind_reader S (is symbol.Null) (sample symbol.Null) (sample_is symbol.Null refl) Nulls Plain d (λ r. Ok (literal.Null, r)) _ (pure_reader S d literal.Null) plain
-    (bars S Plain (AnyOf (symbol.Number ∷ [])) (is symbol.Null) plain_begins (λ t e h. apart symbol.Null (symbol.Number ∷ []) refl t e h)) in
-    let text_or = choice_reader S Texts NullOr (is symbol.Text) d _ _ texts null_or
-    (bars S NullOr (AnyOf (symbol.Number ∷ symbol.Null ∷ [])) (is symbol.Text) null_or_begins (λ t e h. apart symbol.Text (symbol.Number ∷ symbol.Null ∷ []) refl t e h))
-    (none_other S Texts (AnyOf (symbol.Text ∷ [])) (is symbol.Text) texts_begins (λ t h. elim h [ inl e ↦ e | inr none ↦ absurd none ])) in
-    same_reader S MinusOr (λ _ _. IsLiteral) d _ literal_same
-    (behind_reader S (is symbol.Minus) (sample symbol.Minus) (sample_is symbol.Minus refl) Negative TextOr d _ _ negative text_or
-    (bars S TextOr (AnyOf (symbol.Text ∷ symbol.Number ∷ symbol.Null ∷ [])) (is symbol.Minus) text_or_begins (λ t e h. apart symbol.Minus (symbol.Text ∷ symbol.Number ∷ symbol.Null ∷ []) refl t e h)))
+literals d =
+    same literal_same (after symbol.Minus refl (symbol_then symbol.Number refl (λ n. done (literal.Number (neg_ℤ (pos (magnitude n))) (decimals_len n.slice))))
+    (choose symbol.Text (symbol_then symbol.Text refl (λ text. done (literal.Text (content_of text))))
+    (after symbol.Null refl (done literal.Null) (symbol_then symbol.Number refl (λ n. done (literal.Number (pos (magnitude n)) (decimals_len n.slice)))) refl refl) refl refl) refl refl)
 
 -- operand = expr | literal
-pub term_reader : (S : Token → Type 0) → ((t : Token) → is symbol.Point t ≡ true → S t) → ((t : Token) → is symbol.Open t ≡ true → S t) → (grouped : Bool) (d : ℕ) → Reader S (λ _ _. IsTerm grouped) d (term_at grouped)
-unfolding term_at
-term_reader S point paren true d = expr_reader S point paren d
-term_reader S point paren false d = map_reader S (λ _ _. IsColumn) (λ column. expr.Column column) d column_at (column_reader S point d)
+terms : (grouped : Bool) (d : ℕ) → Production false (symbol.Name ∷ []) expr_ends (λ _ _. IsTerm grouped) d (term_at grouped)
+unfolding term_at same_symbol
+terms true d = exprs d
+terms false d = wider (symbol.Point ∷ []) expr_ends refl (mapped {P = λ _ _. IsColumn} (λ column. expr.Column column) (columns d))
 
-term_begins : (grouped : Bool) → BeginsWith (λ _ _. IsTerm grouped) (λ t. is symbol.Name t ≡ true)
-term_begins true d g next w h = expr_begins d g next w h
-term_begins false d g next [] h = h
-term_begins false d g next (t ∷ ts) h = h.0
-
-abbrev pub Termed : Bool → Phrase Atom
+abbrev Termed : Bool → Phrase Atom
 Termed grouped _ _ next = IsTerm grouped (λ e. next (atom.Expr e))
 
-abbrev pub Literals : Phrase Atom
+abbrev Literals : Phrase Atom
 Literals _ _ next = IsLiteral (λ l. next (atom.Literal l))
 
-termed_begins : (grouped : Bool) → BeginsWith (Termed grouped) (λ t. is symbol.Name t ≡ true)
-termed_begins grouped d g next w h = term_begins grouped d g (λ e. next (atom.Expr e)) w h
+abbrev pub operand_firsts : List Symbol
+operand_firsts = symbol.Name ∷ literal_firsts
 
-literals_begin : BeginsWith Literals LiteralFirst
-literals_begin d g next w h = literal_begins d g (λ l. next (atom.Literal l)) w h
-
-pub operand_reader : (S : Token → Type 0) → ((t : Token) → is symbol.Point t ≡ true → S t) → ((t : Token) → is symbol.Open t ≡ true → S t) → (grouped : Bool) (d : ℕ) → Reader S (λ _ _. IsOperand grouped) d (operand_at grouped)
+pub operands : (grouped : Bool) (d : ℕ) → Production false operand_firsts expr_ends (λ _ _. IsOperand grouped) d (operand_at grouped)
 unfolding operand_at same_symbol
-operand_reader S point paren grouped d =
-    choice_reader S (Termed grouped) Literals (is symbol.Name) d _ _
-    (map_reader S (λ _ _. IsTerm grouped) (λ e. atom.Expr e) d (term_at grouped) (term_reader S point paren grouped d))
-    (map_reader S (λ _ _. IsLiteral) (λ l. atom.Literal l) d literal_at (literal_reader S d))
-    (bars S Literals LiteralFirst (is symbol.Name) literals_begin (λ t e h. apart symbol.Name (symbol.Minus ∷ symbol.Text ∷ symbol.Null ∷ symbol.Number ∷ []) refl t e h))
-    (none_other S (Termed grouped) (λ t. is symbol.Name t ≡ true) (is symbol.Name) (termed_begins grouped) (λ t e. e))
+operands grouped d =
+    choose symbol.Name (mapped {P = λ _ _. IsTerm grouped} (λ e. atom.Expr e) (terms grouped d)) (mapped {P = λ _ _. IsLiteral} (λ l. atom.Literal l) (literals d)) refl refl
 
--- the tokens that begin an operand
-abbrev pub OperandFirst : Token → Type 0
-OperandFirst = AnyOf (symbol.Name ∷ symbol.Minus ∷ symbol.Text ∷ symbol.Null ∷ symbol.Number ∷ [])
-
-pub operand_begins : (grouped : Bool) → BeginsWith (λ _ _. IsOperand grouped) OperandFirst
-operand_begins grouped d g next w h = elim h [
-  | inl e ↦ widened (λ t. is symbol.Name t ≡ true) OperandFirst (λ t n. inl n) w (termed_begins grouped d g next w e)
-  | inr l ↦ widened LiteralFirst OperandFirst (λ t n. inr n) w (literals_begin d g next w l)
-]
-
--- an expression may begin with each name
+-- each of their first tokens begins one
 pub expr_began : (t : Token) → is symbol.Name t ≡ true → (d : ℕ) → Began (λ _ _. IsExpr) d [] (t ∷ [])
 expr_began t e d =
-    same_began (Then (λ _ _. Is (is symbol.Name)) ExprAfter) (λ _ _. IsExpr) (record { to = expr_to; from = expr_from })
-    (token_began (is symbol.Name) t e d (expr_after_reader (AnyOf (symbol.Point ∷ symbol.Open ∷ [])) (λ t e. inl e) (λ t e. inr (inl e)) t d).able)
+    same_began (Then (λ _ _. Is (is symbol.Name)) ExprAfter) (λ _ _. IsExpr) (record { to = expr_to; from = expr_from }) (token_began (is symbol.Name) t e d (exprs_after t d).reads.able)
 
 pub column_began : (t : Token) → is symbol.Name t ≡ true → (d : ℕ) → Began (λ _ _. IsColumn) d [] (t ∷ [])
 column_began t e d = record { more = []; value = record { alias = None; name = named t }; ends = λ d' g next v le o h. (e, inl h) }
 
-pub term_began : (grouped : Bool) (t : Token) → is symbol.Name t ≡ true → (d : ℕ) → Began (λ _ _. IsTerm grouped) d [] (t ∷ [])
+term_began : (grouped : Bool) (t : Token) → is symbol.Name t ≡ true → (d : ℕ) → Began (λ _ _. IsTerm grouped) d [] (t ∷ [])
 term_began true t e d = expr_began t e d
 term_began false t e d = record { more = []; value = expr.Column (record { alias = None; name = named t }); ends = λ d' g next v le o h. (e, inl h) }
+
+pub literal_began : (t : Token) → AnyOf literal_firsts t → (d : ℕ) → Began (λ _ _. IsLiteral) d [] (t ∷ [])
+unfolding same_symbol
+literal_began t h d = elim h [
+  | inl m ↦ record { more = sample symbol.Number ∷ []; value = literal.Number (neg_ℤ (pos (magnitude (sample symbol.Number)))) (decimals_len (sample symbol.Number).slice); ends = λ d' g next v le o k. inr (inl (m, (sample_is symbol.Number refl, k))) }
+  | inr a ↦ elim a [
+    | inl x ↦ record { more = []; value = literal.Text (content_of t); ends = λ d' g next v le o k. inr (inr (inl (x, k))) }
+    | inr b ↦ elim b [
+      | inl n ↦ record { more = []; value = literal.Null; ends = λ d' g next v le o k. inr (inr (inr (n, k))) }
+      | inr c ↦ elim c [ inl e ↦ record { more = []; value = literal.Number (pos (magnitude t)) (decimals_len t.slice); ends = λ d' g next v le o k. inl (e, k) } | inr none ↦ absurd none ]
+    ]
+  ]
+]
+
+pub operand_began : (grouped : Bool) (t : Token) → AnyOf operand_firsts t → (d : ℕ) → Began (λ _ _. IsOperand grouped) d [] (t ∷ [])
+operand_began grouped t h d = elim h [
+  | inl n ↦ first_began (Termed grouped) Literals (let b = term_began grouped t n d in record { more = b.more; value = atom.Expr b.value; ends = λ d' g next v le o k. b.ends d' g (λ e. next (atom.Expr e)) v le o k })
+  | inr l ↦ second_began (Termed grouped) Literals (let b = literal_began t l d in record { more = b.more; value = atom.Literal b.value; ends = λ d' g next v le o k. b.ends d' g (λ l. next (atom.Literal l)) v le o k })
+]
+
+-- of four tests one passes
+pub one_of_four : (a b c e : Bool) → (a || b || c || e) ≡ true → (a ≡ true) ⊎ ((b ≡ true) ⊎ ((c ≡ true) ⊎ ((e ≡ true) ⊎ ⊥)))
+one_of_four true b c e h = inl refl
+one_of_four false true c e h = inr (inl refl)
+one_of_four false false true e h = inr (inr (inl refl))
+one_of_four false false false true h = inr (inr (inr (inl refl)))
+one_of_four false false false false h = absurd (cc h)
+
+pub four_of_one : (a b c e : Bool) → (a ≡ true) ⊎ ((b ≡ true) ⊎ ((c ≡ true) ⊎ ((e ≡ true) ⊎ ⊥))) → (a || b || c || e) ≡ true
+four_of_one true b c e h = refl
+four_of_one false true c e h = refl
+four_of_one false false true e h = refl
+four_of_one false false false true h = refl
+four_of_one false false false false h = elim h [ inl x ↦ x | inr k ↦ elim k [ inl x ↦ x | inr l ↦ elim l [ inl x ↦ x | inr m ↦ elim m [ inl x ↦ x | inr none ↦ absurd none ] ] ] ]
+
+pub literal_first : (t : Token) → begins_literal t ≡ true → AnyOf literal_firsts t
+literal_first t e = one_of_four (is symbol.Minus t) (is symbol.Text t) (is symbol.Null t) (is symbol.Number t) e
+
+pub first_literal : (t : Token) → AnyOf literal_firsts t → begins_literal t ≡ true
+first_literal t h = four_of_one (is symbol.Minus t) (is symbol.Text t) (is symbol.Null t) (is symbol.Number t) h
+
+pub test_first : (t : Token) → begins_test t ≡ true → AnyOf operand_firsts t
+test_first t e = of (is symbol.Name t) (begins_literal t) e (literal_first t)
+  where
+    of : (a b : Bool) → (a || b) ≡ true → (b ≡ true → AnyOf literal_firsts t) → (a ≡ true) ⊎ AnyOf literal_firsts t
+    of true b e more = inl refl
+    of false b e more = inr (more e)
+
+pub first_test : (t : Token) → AnyOf operand_firsts t → begins_test t ≡ true
+first_test t h = elim h [ inl n ↦ rw n refl | inr l ↦ both (is symbol.Name t) (begins_literal t) (first_literal t l) ]
+  where
+    both : (a b : Bool) → b ≡ true → (a || b) ≡ true
+    both true b e = refl
+    both false b e = e

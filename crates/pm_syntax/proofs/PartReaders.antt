@@ -1,6 +1,7 @@
 -- The readers of parts and conditions read their productions.
 use Rattle.std.proofs.Common.{◌≡◌, ◌⊎◌, ℕ, zero, suc, Bool, true, false, List, [], ◌∷◌, Ok, Err, refl, sym, ◌∙◌, inl, inr, if◌then◌else◌, ◌||◌}
 use Rattle.pm_lexer.specs.declared.token.Token.{Token}
+use Rattle.pm_lexer.specs.declared.symbol.Symbol.{Symbol}
 use Rattle.pm_lexer.specs.declared.symbol.Symbol.TheVariants as symbol
 use Rattle.pm_lexer.specs.Symbol.{same_symbol, is}
 use Rattle.pm_grammar.specs.Language.{Gate, Is, IsMore, IsFurther, IsList}
@@ -19,8 +20,16 @@ use Rattle.pm_grammar.proofs.Symbols.{sample, sample_is, symbol_reader}
 use Rattle.pm_grammar.proofs.Sets.{AnyOf, widened, apart, within}
 use Rattle.pm_syntax.proofs.Parts.{no_not, no_open}
 use Rattle.pm_grammar.proofs.Helpers.{token_began, then_peek}
-use Rattle.pm_syntax.proofs.ExprReaders.{OperandFirst}
-use Rattle.pm_syntax.proofs.TestReaders.{OperandEnds, Tests, test_reader, test_begins, test_began, first_test, test_first}
+use Rattle.pm_syntax.proofs.ExprReaders.{expr_ends, operand_firsts, first_test, test_first}
+use Rattle.pm_grammar.proofs.Productions.{Production}
+use Rattle.pm_syntax.proofs.TestReaders.{Tests, tests, test_begins, test_began}
+
+-- what may not follow an operand, and what begins one
+abbrev OperandEnds : Token → Type 0
+OperandEnds = AnyOf expr_ends
+
+abbrev OperandFirst : Token → Type 0
+OperandFirst = AnyOf operand_firsts
 
 abbrev pub Part : Bool → Phrase Test
 Part grouped d g = IsPart grouped d g
@@ -60,7 +69,7 @@ tests_in_part grouped b =
     (first_began (ParenOr grouped) (Then (λ _ _. Is (is symbol.Not)) (λ _. Under (NotPart grouped))) (first_began (Tests grouped) (Then (λ _ _. Is (is symbol.Open)) (λ _. Under (Inner grouped))) b))
 
 part_able : (grouped : Bool) (d : ℕ) → Able (Part grouped) d
-part_able grouped d = tests_in_part grouped (test_reader OperandEnds (λ t e. e) grouped d).able
+part_able grouped d = tests_in_part grouped (tests grouped d).reads.able
 
 conds_able : (grouped : Bool) (d : ℕ) → Able (Conds grouped) d
 unfolding IsMore
@@ -254,7 +263,7 @@ part_reader grouped zero = record {
     | false ↦ λ e. same_law OperandEnds (PartOr grouped) (Part grouped) zero ts (test_at grouped ts) (part_same grouped)
         (first_law OperandEnds (ParenOr grouped) (Then (λ _ _. Is (is symbol.Not)) (λ _. Under (NotPart grouped))) zero ts (test_at grouped ts) (λ d' g next w avoids heads h. not_seen (is symbol.Not) ts w _ (no_not ts e) heads h)
         (first_law OperandEnds (Tests grouped) (Then (λ _ _. Is (is symbol.Open)) (λ _. Under (Inner grouped))) zero ts (test_at grouped ts) (λ d' g next w avoids heads h. not_seen (is symbol.Open) ts w _ (no_open ts e) heads h)
-        ((test_reader OperandEnds (λ t e. e) grouped zero).law ts)))
+        ((tests grouped zero).reads.law ts)))
   ] refl;
   able = part_able grouped zero;
 }
@@ -264,12 +273,18 @@ part_reader grouped (suc d) =
     (behind_reader OperandEnds (is symbol.Not) (sample symbol.Not) (sample_is symbol.Not refl) (Under (NotPart grouped)) (ParenOr grouped) (suc d) _ _
     (under_reader OperandEnds (NotPart grouped) d _ (map_reader OperandEnds (Part grouped) (λ part. test.Not part) d (part_at grouped d) r))
     (behind_reader OperandEnds (is symbol.Open) (sample symbol.Open) (sample_is symbol.Open refl) (Under (Inner grouped)) (Tests grouped) (suc d) _ (test_at grouped)
-    (under_reader OperandEnds (Inner grouped) d _ (inner_reader grouped d r)) (test_reader OperandEnds (λ t e. e) grouped (suc d))
+    (under_reader OperandEnds (Inner grouped) d _ (inner_reader grouped d r)) (tests grouped (suc d)).reads
     (bars OperandEnds (Tests grouped) OperandFirst (is symbol.Open) (test_begins grouped) (λ t e h. apart symbol.Open (symbol.Name ∷ symbol.Minus ∷ symbol.Text ∷ symbol.Null ∷ symbol.Number ∷ []) refl t e h)))
     (bars OperandEnds (ParenOr grouped) (AnyOf (symbol.Open ∷ symbol.Name ∷ symbol.Minus ∷ symbol.Text ∷ symbol.Null ∷ symbol.Number ∷ [])) (is symbol.Not) (paren_or_begins grouped)
     (λ t e h. apart symbol.Not (symbol.Open ∷ symbol.Name ∷ symbol.Minus ∷ symbol.Text ∷ symbol.Null ∷ symbol.Number ∷ []) refl t e h)))
 
+abbrev pub part_firsts : List Symbol
+part_firsts = symbol.Not ∷ symbol.Open ∷ operand_firsts
+
+abbrev pub cond_ends : List Symbol
+cond_ends = symbol.Point ∷ symbol.Open ∷ symbol.And ∷ symbol.Or ∷ []
+
 -- a condition
-pub condition_reader : (grouped : Bool) (d : ℕ) → Reader CondEnds (Conds grouped) d (condition_at grouped d)
+pub conditions : (grouped : Bool) (d : ℕ) → Production false part_firsts cond_ends (Conds grouped) d (condition_at grouped d)
 unfolding condition_at
-condition_reader grouped d = conds_reader grouped d (part_reader grouped d)
+conditions grouped d = record { reads = conds_reader grouped d (part_reader grouped d); leads = λ d g next w h. inl (part_begins grouped d g _ w h) }
