@@ -1,15 +1,12 @@
 -- Names and numbers that tokens stand for are valid.
-use Rattle.std.proofs.Common.{◌≡◌, ◌<◌, ◌^◌, ℕ, suc, zero, ℤ, pos, neg_ℤ, Bool, true, false, not, List, [], ◌∷◌, length, filter, cond, Some, unwrap_or, if◌then◌else◌, codes, unsigned_abs, refl, sym, ◌∙◌, ap, subst, arith, nat_le}
-use Rattle.std.proofs.lemmas.Bool.{and_parts}
-use Rattle.std.specs.List.{find, list_all}
-use Rattle.std.specs.Str.{bytes_eq, str_eq_ignore_ascii_case}
+use Rattle.std.proofs.Common.{◌≡◌, ◌<◌, ◌^◌, ℕ, suc, zero, ℤ, pos, neg_ℤ, Bool, true, false, List, [], ◌∷◌, length, filter, cond, if◌then◌else◌, unsigned_abs, refl, sym, ◌∙◌, subst, arith, nat_le}
+use Rattle.std.specs.List.{list_all}
 use Rattle.std.specs.Char.{is_ascii_digit}
 use Rattle.pm_lexer.specs.declared.token.Token.{Token}
 use Rattle.pm_lexer.specs.declared.token.TokenKind.{TokenKind}
 use Rattle.pm_lexer.specs.declared.token.TokenKind.TheVariants as kind
-use Rattle.pm_lexer.specs.declared.symbol.Symbol.{Symbol}
 use Rattle.pm_lexer.specs.declared.symbol.Symbol.TheVariants as symbol
-use Rattle.pm_lexer.specs.Symbol.{is, symbol_of, symbol_at, same_symbol, reserved_word, canonical_sign, spelling}
+use Rattle.pm_lexer.specs.Symbol.{is, symbol_of, symbol_at, same_symbol}
 use Rattle.pm_lexer.specs.Pieces.{content_at, decimals_len}
 use Rattle.pm_grammar.specs.Reading.{named}
 use Rattle.pm_syntax.specs.Terminals.{magnitude, magnitude_of}

@@ -10,8 +10,8 @@ fn label(alloc: Global, table: &str, alias: &str) -> Result<Label, AllocError> {
     })
 }
 
-fn flags(left: bool, right: bool) -> Unique {
-    Unique { left, right }
+fn flags(left: bool, right: bool, total: bool) -> Unique {
+    Unique { left, right, total }
 }
 
 fn pairs(alloc: Global) -> Result<Pairs, AllocError> {
@@ -23,13 +23,14 @@ fn joins(alloc: Global, nodes: &mut Nodes) -> Result<(), AllocError> {
         left: 6,
         right: 7,
         pairs: pairs(alloc)?,
-        unique: flags(false, true),
+        unique: flags(false, true, false),
+        pad: true,
     })?;
     nodes.push(Node::Merge {
         left: 7,
         right: 8,
         pairs: pairs(alloc)?,
-        unique: flags(true, true),
+        unique: flags(true, true, true),
     })?;
     nodes.push(Node::Index {
         left: 8,
@@ -45,7 +46,7 @@ fn joins(alloc: Global, nodes: &mut Nodes) -> Result<(), AllocError> {
         table: 1,
         pairs: pairs(alloc)?,
         label: label(alloc, "order", "a b")?,
-        unique: flags(false, false),
+        unique: flags(false, false, false),
     })
 }
 
@@ -84,7 +85,7 @@ fn each_kind_of_operator_has_its_line(rt: HostRuntime) -> Result<(), Fail> {
     let text = plan_text(alloc, &plan)?;
     assert_eq!(rt;
         text.as_str(),
-        "N 1 project 2\nN 2 sort 3\nN 3 group 4\nN 4 filter 5\nN 5 hash 6 7 unique=right\nN 6 merge 7 8 unique=both\nN 7 index 8 9\nN 8 scan ord o\nN 9 seek \"order\" \"a b\" unique=none\n"
+        "N 1 project 2\nN 2 sort 3\nN 3 group 4\nN 4 filter 5\nN 5 lefthash 6 7 unique=right\nN 6 merge 7 8 unique=both total\nN 7 index 8 9\nN 8 scan ord o\nN 9 seek \"order\" \"a b\" unique=none\n"
     );
     Ok(())
 }
