@@ -6,7 +6,8 @@ ghost use Rattle.pm_plan.specs.Worked.{numbers, numbers_decl};
 use super::*;
 use pm_plan::{Label, Nodes};
 use pm_values::{
-    ColumnDecl, ColumnDecls, Columns, Items, Kind, Kinds, Names, Row, Rows, Table, TableDecl, Txt,
+    ColumnDecl, ColumnDecls, Columns, Kind, Kinds, Names, References, Row, Rows, Table, TableDecl,
+    Txt,
 };
 use std::test::Fail;
 
@@ -26,6 +27,7 @@ fn make_decl(alloc: Global) -> Result<TableDecl, AllocError>
         columns,
         None,
         None,
+        References::new(alloc),
     ))
 }
 
