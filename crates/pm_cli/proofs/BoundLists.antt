@@ -25,9 +25,7 @@ length-bounds (Index left seek cond) n G p = absurd p
 
 nodes-some : (t : Tree) (n : ℕ) → 0 < length (nodes_of t n)
 nodes-some (Scan table label) n = omega arith
-nodes-some (Over (Filter cond) child) n = omega arith
-nodes-some (Over (Sort keys) child) n = omega arith
-nodes-some (Over (Group keys items) child) n = omega arith
+nodes-some (Over op child) n = omega arith
 nodes-some (Join method on left right) n = omega arith
 nodes-some (Index left seek cond) n = omega arith
 
@@ -36,9 +34,7 @@ none = record { lo = 0; hi = 0 }
 
 first-bound : (t : Tree) (n : ℕ) (G : Gauges) → get_or (bounds_of t n G) 0 none ≡ bound_of t n G
 first-bound (Scan table label) n G = refl
-first-bound (Over (Filter cond) child) n G = refl
-first-bound (Over (Sort keys) child) n G = refl
-first-bound (Over (Group keys items) child) n G = refl
+first-bound (Over op child) n G = refl
 first-bound (Join method on left right) n G = refl
 first-bound (Index left seek cond) n G = refl
 

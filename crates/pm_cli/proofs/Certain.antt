@@ -4,12 +4,12 @@ use Rattle.std.proofs.lemmas.List.{length-map, length-append}
 use Rattle.std.proofs.lemmas.Bool.Decides.{nat_tests}
 use Rattle.std.proofs.lemmas.List.Elements.{All-from_recursion}
 use Rattle.std.proofs.lemmas.List.Folds.{list_all-append}
-use Rattle.std.specs.Prelude.{nat_lt}
+use Rattle.std.specs.Prelude.{nat_lt, min}
 use Rattle.std.specs.List.{list_all}
 use Rattle.pm_values.specs.declared.value.Kind.{Kind}
 use Rattle.pm_values.specs.Table.{Relation, IsRelation}
 use Rattle.pm_plan.specs.Rows.{Db}
-use Rattle.pm_work.specs.First.{first_bound, first_sum, greatest, most_work}
+use Rattle.pm_work.specs.First.{first_bound, greatest, most_work}
 use Rattle.pm_work.specs.Fits.{IsSound, sizes_of}
 use Rattle.pm_estim.proofs.Certain.{certified as certified_numbers}
 use Rattle.pm_cli.specs.TablePlan.{below, tree_over, plan_over, query_over}
@@ -33,35 +33,41 @@ all-below (suc n) wide h =
 sound : (table : Relation) → IsRelation table → IsSound (unreferring table ∷ []) (tree_over table.decl)
 sound table declared =
     let columns = table.decl.columns in
+    let one : List ℕ = 0 ∷ [] in
     let kinds : length (map (λ column. column.kind) columns) ≡ length columns = length-map columns (λ column. column.kind) in
     let narrow : length columns ≤ 64 = declared.declared.narrow in
     let wide : (f : ℕ → Kind) → length (map f (below (length columns))) < 2 ^ 32 =
     λ f. omega (arith, length-map (below (length columns)) f, length-below (length columns), narrow) in
     record {
       tables =
-          All-from_recursion IsRelation (unreferring table ∷ [])
-          (record {
-            declared = record {
-              narrow = narrow;
-              scales = declared.declared.scales;
-              key_named = declared.declared.key_named;
-              order_named = declared.declared.order_named;
-              references_named = All-from_recursion _ [] tt;
-            };
-            few = declared.few;
-            fit = declared.fit;
-            keyed = declared.keyed;
-            ordered = declared.ordered;
-          }, tt);
+          All-from_recursion IsRelation (unreferring table ∷ []) (
+            record {
+              declared = record {
+                narrow = narrow;
+                scales = declared.declared.scales;
+                key_named = declared.declared.key_named;
+                order_named = declared.declared.order_named;
+                references_named = All-from_recursion _ [] tt;
+              };
+              few = declared.few;
+              fit = declared.fit;
+              keyed = declared.keyed;
+              ordered = declared.ordered;
+            },
+            tt,
+          );
       operators = ((all-below (length columns) (length (map (λ column. column.kind) columns)) (omega (arith, kinds)), wide _), (refl, omega (arith, kinds, narrow)));
-      references = All-from_recursion _ (0 ∷ []) (All-from_recursion _ (0 ∷ []) (All-from_recursion _ [] tt, tt), tt);
+      references = All-from_recursion _ one (All-from_recursion _ one (All-from_recursion _ [] tt, tt), tt);
     }
+
+under : (top n most : ℕ) → n ≤ most → min top n ≤ most
+under top n most h = omega arith
 
 bounded : (table : Relation) → IsRelation table → first_bound (sizes_of (unreferring table ∷ [])) (tree_over table.decl) ≤ most_work
 bounded table declared =
-    let few : length table.rows ≤ 2 ^ 24 = declared.few in
-    let sum : first_sum (sizes_of (unreferring table ∷ [])) (tree_over table.decl) ≡ length table.rows + length table.rows = refl in
-    omega (arith, min-right greatest (first_sum (sizes_of (unreferring table ∷ [])) (tree_over table.decl)), sum, few)
+    let rows = length table.rows in
+    let few : rows ≤ 2 ^ 24 = declared.few in
+    under greatest (rows + rows) most_work (omega arith)
 
 pub certified : (place : ℕ) (table : Relation) → IsRelation table
     → IsCertifiedRun (query_over place table.decl) (plan_over table.decl) (table ∷ [])

@@ -53,6 +53,8 @@ unfiltered (row ∷ rows) = ap (λ s. row ∷ s) (unfiltered rows)
 
 pub rows-answer : (place : ℕ) (table : Relation) → output (table ∷ []) (tree_over table.decl) ≡ answer (query_over place table.decl) (table ∷ [])
 rows-answer place table =
-    let rows = map (λ r. [] ++ r) table.rows in
-    ap (map (pick (below (length table.decl.columns))))
-    (sym (unsorted (filter (meets []) (rows ++ [])) ∙ unfiltered (rows ++ []) ∙ append-nil rows ∙ unjoined table.rows))
+    let rows : List Row = map (λ r. [] ++ r) table.rows in
+    let entered : List Row = filter (meets []) rows in
+    let whole : filter (meets []) (entered ++ []) ≡ table.rows =
+    unfiltered (entered ++ []) ∙ append-nil entered ∙ unfiltered rows ∙ unjoined table.rows in
+    ap (map (pick (below (length table.decl.columns)))) (sym (unsorted (filter (meets []) (entered ++ [])) ∙ whole))

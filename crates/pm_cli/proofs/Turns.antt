@@ -6,7 +6,7 @@ use Rattle.std.proofs.lemmas.List.{take_all}
 use Rattle.pm_plan.specs.declared.gauge.Gauge.{Gauge}
 use Rattle.pm_plan.specs.declared.plan.Plan.{Plan}
 use Rattle.pm_plan.specs.Rows.{Db}
-use Rattle.pm_plan.specs.Tree.{Tree, Scan}
+use Rattle.pm_plan.specs.Tree.{Tree, Scan, Over, Join, Index}
 use Rattle.pm_plan.specs.Preorder.{tree_of}
 use Rattle.pm_plan.specs.Outputs.{output}
 use Rattle.pm_work.specs.Work.{whole_work}
@@ -52,9 +52,7 @@ room run e is within =
 -- after all events the root has handed out its output
 first-handed : (db : Db) (t : Tree) (k : ℕ) (d : Gauge) → (get_or (gauges_at db t k) 0 d).handed ≡ counts_at db t k 1
 first-handed db (Scan table label) k d = refl
-first-handed db (Over (Filter cond) child) k d = refl
-first-handed db (Over (Sort keys) child) k d = refl
-first-handed db (Over (Group keys items) child) k d = refl
+first-handed db (Over op child) k d = refl
 first-handed db (Join method on left right) k d = refl
 first-handed db (Index left seek cond) k d = refl
 

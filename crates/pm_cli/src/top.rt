@@ -8,7 +8,7 @@ ghost use Rattle.pm_cli.specs.TablePlan.{plan_over, query_over};
 ghost use Rattle.pm_inputs.specs.declared.refusal.Refusal.{Refusal as Refused};
 ghost use Rattle.pm_inputs.specs.Calls.{Calls, IsNoRun};
 ghost use Rattle.pm_inputs.specs.Stops.{Reaches};
-ghost use Rattle.pm_cli.specs.Certified.{AreCertified};
+ghost use Rattle.pm_cli.specs.Certified.{IsCertifiedRun};
 ghost use Rattle.pm_cli.specs.Status.{status_of};
 ghost use Rattle.pm_cli.specs.Answers.{Explains, IsAnswerTo, IsSetback, IsRefused, IsLineOf, line_of, data_line, table_text, OnAbsent, OnBroken, IfRole, HasFault};
 
@@ -40,7 +40,7 @@ pub fn monitor_main<R: Threads, F: Files, S: Sink, G: Gate>(
     ensures text { result ≡ Status.Done → IfSome (F.held files.old) (λ held. (table : Relation)
         → Calls words.now held (Ok table) → S.written out.new ≡ gained (S.written out.old) (table_text table)) }
     ensures certified { result ≡ Status.Done → IfSome (F.held files.old) (λ held. (table : Relation)
-        → Calls words.now held (Ok table) → (place : ℕ) → AreCertified (query_over place table.decl) (plan_over table.decl) (table ∷ [])) }
+        → Calls words.now held (Ok table) → (place : ℕ) → IsCertifiedRun (query_over place table.decl) (plan_over table.decl) (table ∷ [])) }
     ensures finished { result ≡ Status.Done → IfSome (S.finished out.new) (λ finished. finished ≡ true) }
 
     // Where the files' bytes are told, the answer is what they call for, unless a setback came.

@@ -6,9 +6,7 @@ use crate::loading::load;
 use crate::reading::records;
 use crate::record_list::Records;
 use crate::typing::type_rows;
-use pm_values::{
-    ColumnDecl, ColumnDecls, Columns, Kind, References, Table, TableDecl, Txt, Value,
-};
+use pm_values::{ColumnDecl, ColumnDecls, Columns, Kind, References, Table, TableDecl, Txt, Value};
 use std::alloc::{AllocError, Global};
 use std::test::Fail;
 
@@ -60,14 +58,7 @@ fn declared(
     let columns = columns(alloc, first, second)?;
     let key = first_column(alloc, key)?;
     let order = first_column(alloc, order)?;
-    Ok(TableDecl::new(
-        name,
-        file,
-        columns,
-        key,
-        order,
-        References::new(alloc),
-    ))
+    Ok(TableDecl::new(name, file, columns, key, order, References::new(alloc)))
 }
 
 // The values of a table: numbers, texts in quotes, and a line behind each row.
