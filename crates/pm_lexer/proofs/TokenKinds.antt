@@ -58,10 +58,13 @@ unfolding same_symbol
 number_at kind.Name slice same = absurd (cc same)
 number_at kind.Reserved slice same = absurd (no_word symbol.Number number_kind slice same)
 number_at kind.Quoted slice same = absurd (cc same)
-number_at kind.Number slice same = (refl, elim (nat_le (length slice) NUMBER_BYTES) as (λ b. nat_le (length slice) NUMBER_BYTES ≡ b → same_symbol (if b then symbol.Number else symbol.Other) symbol.Number ≡ true → length slice ≤ NUMBER_BYTES) [
-  | true ↦ λ e _. short (length slice) e
-  | false ↦ λ _ other. absurd (cc other)
-] refl same)
+number_at kind.Number slice same = (
+  refl,
+  elim (nat_le (length slice) NUMBER_BYTES) as (λ b. nat_le (length slice) NUMBER_BYTES ≡ b → same_symbol (if b then symbol.Number else symbol.Other) symbol.Number ≡ true → length slice ≤ NUMBER_BYTES) [
+    | true ↦ λ e _. short (length slice) e
+    | false ↦ λ _ other. absurd (cc other)
+  ] refl same,
+)
   where
     short : (n : ℕ) → nat_le n NUMBER_BYTES ≡ true → n ≤ NUMBER_BYTES
     short n e = grind (arith, nat_tests)
