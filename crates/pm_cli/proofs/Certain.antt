@@ -4,13 +4,14 @@ use Rattle.std.proofs.lemmas.List.{length-map, length-append}
 use Rattle.std.proofs.lemmas.Bool.Decides.{nat_tests}
 use Rattle.std.proofs.lemmas.List.Elements.{All-from_recursion}
 use Rattle.std.proofs.lemmas.List.Folds.{list_all-append}
-use Rattle.std.specs.Prelude.{nat_lt, min}
+use Rattle.std.specs.Prelude.{nat_lt, min, All}
 use Rattle.std.specs.List.{list_all}
 use Rattle.pm_values.specs.declared.value.Kind.{Kind}
 use Rattle.pm_values.specs.Table.{Relation, IsRelation}
 use Rattle.pm_plan.specs.Rows.{Db}
 use Rattle.pm_work.specs.First.{first_bound, greatest, most_work}
-use Rattle.pm_work.specs.Fits.{IsSound, sizes_of}
+use Rattle.pm_work.specs.Fits.{IsSound, ReferencesBetween, sizes_of}
+use Rattle.pm_estim.specs.Certified.{AreCertified}
 use Rattle.pm_estim.proofs.Certain.{certified as certified_numbers}
 use Rattle.pm_cli.specs.TablePlan.{below, tree_over, plan_over, query_over}
 use Rattle.pm_cli.specs.Certified.{IsCertifiedRun}
@@ -33,7 +34,10 @@ all-below (suc n) wide h =
 sound : (table : Relation) → IsRelation table → IsSound (unreferring table ∷ []) (tree_over table.decl)
 sound table declared =
     let columns = table.decl.columns in
+    let db : Db = unreferring table ∷ [] in
     let one : List ℕ = 0 ∷ [] in
+    let none : ReferencesBetween db 0 0 = All-from_recursion _ [] tt in
+    let each : All (ReferencesBetween db 0) one = All-from_recursion (ReferencesBetween db 0) one (none, tt) in
     let kinds : length (map (λ column. column.kind) columns) ≡ length columns = length-map columns (λ column. column.kind) in
     let narrow : length columns ≤ 64 = declared.declared.narrow in
     let wide : (f : ℕ → Kind) → length (map f (below (length columns))) < 2 ^ 32 =
@@ -57,7 +61,7 @@ sound table declared =
             tt,
           );
       operators = ((all-below (length columns) (length (map (λ column. column.kind) columns)) (omega (arith, kinds)), wide _), (refl, omega (arith, kinds, narrow)));
-      references = All-from_recursion _ one (All-from_recursion _ one (All-from_recursion _ [] tt, tt), tt);
+      references = All-from_recursion (λ child. All (ReferencesBetween db child) one) one (each, tt);
     }
 
 under : (top n most : ℕ) → n ≤ most → min top n ≤ most
@@ -72,7 +76,17 @@ bounded table declared =
 pub certified : (place : ℕ) (table : Relation) → IsRelation table
     → IsCertifiedRun (query_over place table.decl) (plan_over table.decl) (table ∷ [])
 certified place table declared =
+    let c : AreCertified (unreferring table ∷ []) (tree_over table.decl) =
+    certified_numbers (unreferring table ∷ []) (tree_over table.decl) (sound table declared) (bounded table declared) in
     record {
-      numbers = certified_numbers (unreferring table ∷ []) (tree_over table.decl) (sound table declared) (bounded table declared);
+      numbers = record {
+        each = c.each;
+        work = c.work;
+        narrows = c.narrows;
+        ends = c.ends;
+        each_encloses = c.each_encloses;
+        each_narrows = c.each_narrows;
+        each_ends = c.each_ends;
+      };
       rows = rows-answer place table;
     }
