@@ -11,7 +11,7 @@ use Rattle.pm_work.specs.Moments.{Gauges, gauge_in}
 use Rattle.pm_bounds.specs.Bounds.{lo, hi, lo_of_seek, hi_of_seek, bound_of, bounds_of, work_done, lo_whole, hi_whole}
 use Rattle.pm_cli.specs.TablePlan.{IsProjectedScan}
 use Rattle.pm_plan.specs.declared.gauge.Shown.{Shown}
-use Rattle.pm_estim.specs.Pipelines.{driven, driven_handed, driven_hi}
+use Rattle.pm_estim.specs.Pipelines.{driven, driven_handed}
 use Rattle.pm_estim.specs.Estimates.{safe_root, shown_of}
 use Rattle.pm_cli.specs.declared.estim.Pipe.{Pipe}
 use Rattle.pm_cli.specs.Bounds.{work_of, lo_of, hi_of, whole_of}
