@@ -9,7 +9,7 @@ use Rattle.pm_grammar.specs.Language.{Lang, Is, never, IsMore, IsFurther, IsList
 use Rattle.pm_canonical.proofs.Shapes.{Shape, shape_of, between}
 use Rattle.pm_canonical.proofs.Valid.{Every}
 
--- a value, and nothing behind it
+-- a value, and nothing after it
 abbrev pub Whole : {A : Type 0} → A → A → List Token → Type 0
 Whole value found rest = (found ≡ value) × (rest ≡ [])
 
@@ -104,8 +104,8 @@ pub symbol_token : (s : Symbol) (h : Shape) → Stands s h → Reading (Is (is s
 symbol_token s h stands = token (is s) h (passes s h stands)
 
 -- a symbol, and then a phrase
-pub behind : {B : Type 0} (s : Symbol) (h : Shape) → Stands s h → (Q : Token → Lang B) (Better : B → Type 0) (b : List Shape) → ((t : Token) → shape_of t ≡ h → Reading (Q t) Better b) → Reading (λ next. Is (is s) (λ t. Q t next)) Better (h ∷ b)
-behind s h stands Q Better b q = bind (Is (is s)) Q (λ t. shape_of t ≡ h) Better (h ∷ []) b (symbol_token s h stands) q
+pub and_then : {B : Type 0} (s : Symbol) (h : Shape) → Stands s h → (Q : Token → Lang B) (Better : B → Type 0) (b : List Shape) → ((t : Token) → shape_of t ≡ h → Reading (Q t) Better b) → Reading (λ next. Is (is s) (λ t. Q t next)) Better (h ∷ b)
+and_then s h stands Q Better b q = bind (Is (is s)) Q (λ t. shape_of t ≡ h) Better (h ∷ []) b (symbol_token s h stands) q
 
 -- an entry with its separator, where the limit allows it
 abbrev pub Entry : {A S : Type 0} → Lang S → (S → Lang A) → (A → Type 0) → List Shape → Type 1
@@ -139,12 +139,12 @@ between_is : {A : Type 0} (sep : Shape) (f : A → List Shape) (x : A) (xs : Lis
 between_is sep f x [] = sym (append-nil (f x))
 between_is sep f x (y ∷ ys) = ap (λ t. f x ++ sep ∷ t) (between_is sep f y ys)
 
--- an entry behind its separator
-entry_behind : {A B : Type 0} (P : Lang A) (s : Symbol) (h : Shape) → Stands s h → (u : A → B) (f : A → List Shape) (xs : List A) → Each (λ x. Reading P (λ y. u y ≡ u x) (f x)) xs
+-- an entry after its separator
+entry_after : {A B : Type 0} (P : Lang A) (s : Symbol) (h : Shape) → Stands s h → (u : A → B) (f : A → List Shape) (xs : List A) → Each (λ x. Reading P (λ y. u y ≡ u x) (f x)) xs
     → Each (λ x. Entry (Is (is s)) (λ _. P) (λ y. u y ≡ u x) (h ∷ f x)) xs
-entry_behind P s h stands u f [] all = tt
-entry_behind P s h stands u f (x ∷ xs) all =
-    (λ C c. behind s h stands (λ _ next ts. C × P next ts) (λ z. u z ≡ u x) (f x) (λ t _. given P (λ z. u z ≡ u x) (f x) C c all.0), entry_behind P s h stands u f xs all.1)
+entry_after P s h stands u f [] all = tt
+entry_after P s h stands u f (x ∷ xs) all =
+    (λ C c. and_then s h stands (λ _ next ts. C × P next ts) (λ z. u z ≡ u x) (f x) (λ t _. given P (λ z. u z ≡ u x) (f x) C c all.0), entry_after P s h stands u f xs all.1)
 
 -- a list with separators
 pub list_read : {A B : Type 0} (limit : ℕ) (P : Lang A) (s : Symbol) (h : Shape) → Stands s h → (u : A → B) (f : A → List Shape) (xs : List A) → Each (λ x. Reading P (λ y. u y ≡ u x) (f x)) xs → 0 < length xs → length xs ≤ limit
@@ -154,7 +154,7 @@ list_read limit P s h stands u f (x ∷ xs) all some fits =
     shaped _ _ _ _ (sym (between_is h f x xs))
     (bind P (λ a. IsFurther never limit (Is (is s)) (λ _. P) (a ∷ [])) (λ y. u y ≡ u x) (λ r. map u r ≡ map u (x ∷ xs)) (f x) (flat_map (λ y. h ∷ f y) xs) all.0
     (λ a same front e.
-    let r = more_read limit (Is (is s)) (λ _. P) u (λ y. h ∷ f y) (a ∷ []) xs (entry_behind P s h stands u f xs all.1) (omega arith) (length xs) refl (u x ∷ []) (rw same refl) front e in
+    let r = more_read limit (Is (is s)) (λ _. P) u (λ y. h ∷ f y) (a ∷ []) xs (entry_after P s h stands u f xs all.1) (omega arith) (length xs) refl (u x ∷ []) (rw same refl) front e in
     record { value = r.value; good = r.good; reads = λ next w n. (length xs, r.reads next w n) }))
 
 pub list_of : {A B : Type 0} (limit : ℕ) (P : Lang A) (s : Symbol) (h : Shape) → Stands s h → (u : A → B) (f : A → List Shape) (V : A → Type 0) → ((x : A) → V x → Reading P (λ y. u y ≡ u x) (f x))

@@ -20,7 +20,7 @@ pub record IsQuotedName (name : List ℕ) : Type 0 where
   pub short : length name ≤ 64
   pub clean : Every (λ b. is_ascii_control b ≡ false) name
 
--- a number: at most 30 digits, of which at most 6 stand behind the point
+-- a number: at most 30 digits, of which at most 6 stand after the point
 pub record IsNumber (slice : List ℕ) : Type 0 where
   pub some : 0 < whole_len slice
   pub decimals : decimals_len slice ≤ 6

@@ -19,7 +19,7 @@ use Rattle.pm_lexer.specs.Byte.{is_blank, is_letter, is_word}
 use Rattle.pm_lexer.specs.Pieces.{whole_len, decimals_len, longer, quotation, single_quotes, content_at}
 use Rattle.pm_lexer.specs.Symbol.{reserved_word, sign_of}
 use Rattle.pm_lexer.specs.Head.{name_at, number_at, named_at, closed_name_at, plain_at, quoted_at, closed_text_at, text_at, sign_at, head_of}
-use Rattle.pm_lexer.specs.Tokens.{before, end_token, tokens_behind, tokens_of}
+use Rattle.pm_lexer.specs.Tokens.{before, end_token, tokens_after, tokens_of}
 use Rattle.pm_canonical.proofs.Valid.{Every}
 use Rattle.pm_canonical.proofs.Formed.{IsPlainName, IsFormedAt, IsFormed}
 use Rattle.pm_canonical.proofs.Runs.{run_all, all_head, all_tail}
@@ -175,23 +175,23 @@ formed_before k slice at (Ok ts) tokens here rest e =
     rw (sym is) (All-cons IsFormed (record { kind = k; slice = slice; at = at }) ts here (rest ts refl))
 formed_before k slice at (Err bad) tokens here rest e = absurd (cc e)
 
-pub formed_behind : (n at : ℕ) (text : List ℕ) (tokens : List Token) → tokens_behind n at text ≡ Ok tokens → All IsFormed tokens
-unfolding tokens_behind
-formed_behind n at [] tokens e =
+pub formed_after : (n at : ℕ) (text : List ℕ) (tokens : List Token) → tokens_after n at text ≡ Ok tokens → All IsFormed tokens
+unfolding tokens_after
+formed_after n at [] tokens e =
     let is : end_token at ∷ [] ≡ tokens = cc e in
     rw (sym is) (All-cons IsFormed (end_token at) [] tt (All-nil IsFormed))
-formed_behind (suc n) at (b ∷ rest) tokens e = formed_behind n (suc at) rest tokens e
-formed_behind zero at (b ∷ rest) tokens e =
+formed_after (suc n) at (b ∷ rest) tokens e = formed_after n (suc at) rest tokens e
+formed_after zero at (b ∷ rest) tokens e =
     elim (head_of at (b ∷ rest)) as (λ h. Forms (b ∷ rest) h → (let r : Result (List Token) LexBad = elim h [
-      | Ok (head.Gap n) ↦ tokens_behind (n - 1) (suc at) rest
-      | Ok (head.Piece k n) ↦ before (record { kind = k; slice = take n (b ∷ rest); at = at }) (tokens_behind (n - 1) (suc at) rest)
+      | Ok (head.Gap n) ↦ tokens_after (n - 1) (suc at) rest
+      | Ok (head.Piece k n) ↦ before (record { kind = k; slice = take n (b ∷ rest); at = at }) (tokens_after (n - 1) (suc at) rest)
       | Err e ↦ Err e
     ] in r ≡ Ok tokens) → All IsFormed tokens) [
-      | Ok (head.Gap n) ↦ λ _ e. formed_behind (n - 1) (suc at) rest tokens e
-      | Ok (head.Piece k n) ↦ λ here e. formed_before k (take n (b ∷ rest)) at (tokens_behind (n - 1) (suc at) rest) tokens here (λ ts is. formed_behind (n - 1) (suc at) rest ts is) e
+      | Ok (head.Gap n) ↦ λ _ e. formed_after (n - 1) (suc at) rest tokens e
+      | Ok (head.Piece k n) ↦ λ here e. formed_before k (take n (b ∷ rest)) at (tokens_after (n - 1) (suc at) rest) tokens here (λ ts is. formed_after (n - 1) (suc at) rest ts is) e
       | Err bad ↦ λ _ e. absurd (cc e)
     ] (head_forms at (b ∷ rest)) e
 
 pub formed_tokens : (text : List ℕ) (tokens : List Token) → tokens_of text ≡ Ok tokens → All IsFormed tokens
 unfolding tokens_of
-formed_tokens text tokens e = formed_behind 0 0 text tokens e
+formed_tokens text tokens e = formed_after 0 0 text tokens e

@@ -55,7 +55,7 @@ name_is at w rest all short after =
     let run = run_whole is_word w rest all (follows_weaker stops (λ b. not (is_word b)) word_ends rest after) in
     rw (run, take-append_seam w rest, le-ltb 64 (length w) short) refl
 
--- the bytes of a name or a word: letters, digits and underscores behind a letter
+-- the bytes of a name or a word: letters, digits and underscores after a letter
 abbrev pub is_wordy : List ℕ → Bool
 is_wordy [] = false
 is_wordy (b ∷ rest) = is_letter b && list_all is_word rest

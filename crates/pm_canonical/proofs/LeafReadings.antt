@@ -16,7 +16,7 @@ use Rattle.pm_syntax.specs.Grammar.{IsLiteral, IsOperand, IsCompare, IsNullTest,
 use Rattle.pm_canonical.proofs.Shapes.{Shape, shape_of, sign, word, between, shapes_literal, shapes_atom, shape_comparison, shapes_negation, shapes_layer, phrase_of, in_parens}
 use Rattle.pm_syntax.specs.Same.{unplaced_atom, unplaced_layer, unplaced_test}
 use Rattle.pm_canonical.proofs.Valid.{ValidList, ValidLiteral, ValidAtom, ValidLeaf, compared, null_test, listed, ranged}
-use Rattle.pm_canonical.proofs.Combinators.{Reading, pure, shaped, better, mapped, left, right, bind, behind, token, passes, list_of}
+use Rattle.pm_canonical.proofs.Combinators.{Reading, pure, shaped, better, mapped, left, right, bind, and_then, token, passes, list_of}
 use Rattle.pm_canonical.proofs.Standing.{stands_is, stands_not, stands_null, stands_in, stands_open, stands_close, stands_comma, stands_between, stands_and}
 use Rattle.pm_canonical.proofs.Folds.{fold_compare, fold_null, fold_one_of, fold_between}
 use Rattle.pm_canonical.proofs.OperandReadings.{literal_read, operand_read}
@@ -82,9 +82,9 @@ null_read : (grouped : Bool) (of : Atom) (negated : Bool) → ValidAtom grouped 
 null_read grouped of negated valid =
     bind (IsOperand grouped) (Behind grouped) (SameAtom of) _ (shapes_atom of) (word symbol.Is ∷ shapes_negation negated ++ word symbol.Null ∷ []) (operand_read grouped of valid)
     (λ x f. right (IsCompare grouped x) (Later grouped x) _ _ (left (IsNullTest x) (Negated grouped x) _ (word symbol.Is ∷ shapes_negation negated ++ word symbol.Null ∷ [])
-    (behind symbol.Is (word symbol.Is) stands_is (λ _ next. IsOptional (is symbol.Not) (λ o. Is (is symbol.Null) (λ _. next (test.IsNull x (is_some o))))) _ (shapes_negation negated ++ word symbol.Null ∷ [])
+    (and_then symbol.Is (word symbol.Is) stands_is (λ _ next. IsOptional (is symbol.Not) (λ o. Is (is symbol.Null) (λ _. next (test.IsNull x (is_some o))))) _ (shapes_negation negated ++ word symbol.Null ∷ [])
     (λ _ _. bind (IsOptional (is symbol.Not)) (λ o next. Is (is symbol.Null) (λ _. next (test.IsNull x (is_some o)))) (λ o. is_some o ≡ negated) _ (shapes_negation negated) (word symbol.Null ∷ []) (not_read negated)
-    (λ o n. behind symbol.Null (word symbol.Null) stands_null (λ _ next. next (test.IsNull x (is_some o))) _ []
+    (λ o n. and_then symbol.Null (word symbol.Null) stands_null (λ _ next. next (test.IsNull x (is_some o))) _ []
     (λ _ _. pure _ (test.IsNull x (is_some o))
     (fold_null unplaced_layer x (is_some o) ∙ ap (λ a. test.IsNull a (is_some o)) f ∙ ap (λ b. test.IsNull (unplaced_atom of) b) n ∙ sym (fold_null unplaced_layer of negated))))))))
 
@@ -97,7 +97,7 @@ literals_read list valid =
     better _ (λ r. map (λ l. l) r ≡ map (λ l. l) list) _ _ (λ r e. sym (map_same r) ∙ e ∙ map_same list)
     (list_of 256 IsLiteral symbol.Comma (sign symbol.Comma) stands_comma (λ l. l) shapes_literal ValidLiteral literal_read list valid.some valid.within valid.each)
 
--- behind an operand and NOT
+-- after an operand and NOT
 negated_read : (grouped : Bool) (of : Atom) (negated : Bool) (t : Test) (b : List Shape) → ValidAtom grouped of
     → ((x : Atom) (o : Option Token) → SameAtom of x → is_some o ≡ negated → Reading (λ next ts. IsIn never x o next ts ⊎ IsBetween grouped x o next ts) (SameTest t) b)
     → Reading (IsTest grouped never) (SameTest t) (shapes_atom of ++ (shapes_negation negated ++ b))
@@ -111,13 +111,13 @@ one_of_read : (grouped : Bool) (of : Atom) (list : List Literal) (negated : Bool
 one_of_read grouped of list negated at valid literals =
     negated_read grouped of negated (test.OneOf of list negated at) _ valid
     (λ x o f n. left (IsIn never x o) (IsBetween grouped x o) _ (word symbol.In ∷ sign symbol.Open ∷ between (sign symbol.Comma) (map shapes_literal list) ++ sign symbol.Close ∷ [])
-    (behind symbol.In (word symbol.In) stands_in (λ w next. Is (is symbol.Open) (λ _. IsList never 256 IsLiteral (is symbol.Comma) (λ l. Is (is symbol.Close) (λ _. next (test.OneOf x l (is_some o) (unwrap_or o w).at))))) _
+    (and_then symbol.In (word symbol.In) stands_in (λ w next. Is (is symbol.Open) (λ _. IsList never 256 IsLiteral (is symbol.Comma) (λ l. Is (is symbol.Close) (λ _. next (test.OneOf x l (is_some o) (unwrap_or o w).at))))) _
     (sign symbol.Open ∷ between (sign symbol.Comma) (map shapes_literal list) ++ sign symbol.Close ∷ [])
-    (λ w _. behind symbol.Open (sign symbol.Open) stands_open (λ _ next. IsList never 256 IsLiteral (is symbol.Comma) (λ l. Is (is symbol.Close) (λ _. next (test.OneOf x l (is_some o) (unwrap_or o w).at)))) _
+    (λ w _. and_then symbol.Open (sign symbol.Open) stands_open (λ _ next. IsList never 256 IsLiteral (is symbol.Comma) (λ l. Is (is symbol.Close) (λ _. next (test.OneOf x l (is_some o) (unwrap_or o w).at)))) _
     (between (sign symbol.Comma) (map shapes_literal list) ++ sign symbol.Close ∷ [])
     (λ _ _. bind (IsList never 256 IsLiteral (is symbol.Comma)) (λ l next. Is (is symbol.Close) (λ _. next (test.OneOf x l (is_some o) (unwrap_or o w).at))) (λ r. r ≡ list) _
     (between (sign symbol.Comma) (map shapes_literal list)) (sign symbol.Close ∷ []) (literals_read list literals)
-    (λ l same. behind symbol.Close (sign symbol.Close) stands_close (λ _ next. next (test.OneOf x l (is_some o) (unwrap_or o w).at)) _ []
+    (λ l same. and_then symbol.Close (sign symbol.Close) stands_close (λ _ next. next (test.OneOf x l (is_some o) (unwrap_or o w).at)) _ []
     (λ _ _. pure _ (test.OneOf x l (is_some o) (unwrap_or o w).at)
     (fold_one_of unplaced_layer x l (is_some o) (unwrap_or o w).at ∙ ap (λ a. test.OneOf a l (is_some o) 0) f ∙ ap (λ r. test.OneOf (unplaced_atom of) r (is_some o) 0) same
     ∙ ap (λ b. test.OneOf (unplaced_atom of) list b 0) n ∙ sym (fold_one_of unplaced_layer of list negated at))))))))
@@ -127,10 +127,10 @@ between_read : (grouped : Bool) (of low high : Atom) (negated : Bool) (at : ℕ)
 between_read grouped of low high negated at valid lows highs =
     negated_read grouped of negated (test.Between of low high negated at) _ valid
     (λ x o f n. right (IsIn never x o) (IsBetween grouped x o) _ (word symbol.Between ∷ shapes_atom low ++ word symbol.And ∷ shapes_atom high)
-    (behind symbol.Between (word symbol.Between) stands_between (λ w next. IsOperand grouped (λ y. Is (is symbol.And) (λ _. IsOperand grouped (λ z. next (test.Between x y z (is_some o) (unwrap_or o w).at))))) _
+    (and_then symbol.Between (word symbol.Between) stands_between (λ w next. IsOperand grouped (λ y. Is (is symbol.And) (λ _. IsOperand grouped (λ z. next (test.Between x y z (is_some o) (unwrap_or o w).at))))) _
     (shapes_atom low ++ word symbol.And ∷ shapes_atom high)
     (λ w _. bind (IsOperand grouped) (λ y next. Is (is symbol.And) (λ _. IsOperand grouped (λ z. next (test.Between x y z (is_some o) (unwrap_or o w).at)))) (SameAtom low) _ (shapes_atom low) (word symbol.And ∷ shapes_atom high) (operand_read grouped low lows)
-    (λ y g. behind symbol.And (word symbol.And) stands_and (λ _ next. IsOperand grouped (λ z. next (test.Between x y z (is_some o) (unwrap_or o w).at))) _ (shapes_atom high)
+    (λ y g. and_then symbol.And (word symbol.And) stands_and (λ _ next. IsOperand grouped (λ z. next (test.Between x y z (is_some o) (unwrap_or o w).at))) _ (shapes_atom high)
     (λ _ _. mapped (IsOperand grouped) (λ z. test.Between x y z (is_some o) (unwrap_or o w).at) (SameAtom high) _ (shapes_atom high) (operand_read grouped high highs)
     (λ z h. fold_between unplaced_layer x y z (is_some o) (unwrap_or o w).at ∙ ap (λ a. test.Between a (unplaced_atom y) (unplaced_atom z) (is_some o) 0) f
     ∙ ap (λ a. test.Between (unplaced_atom of) a (unplaced_atom z) (is_some o) 0) g ∙ ap (λ a. test.Between (unplaced_atom of) (unplaced_atom low) a (is_some o) 0) h

@@ -19,7 +19,7 @@ use Rattle.pm_lexer.specs.Quoting.{quoted, is_plain}
 use Rattle.pm_canonical.specs.Canon.{canon_func}
 use Rattle.pm_canonical.proofs.Shapes.{Shape, shape_of, sign, word, shape_name, shapes_alias, shapes_column, shape_func, shapes_expr, shapes_given}
 use Rattle.pm_syntax.specs.Same.{unplaced_option, unplaced_name, unplaced_column, unplaced_expr}
-use Rattle.pm_canonical.proofs.Combinators.{Reading, pure, mapped, left, right, bind, behind, token, symbol_token, Stands}
+use Rattle.pm_canonical.proofs.Combinators.{Reading, pure, mapped, left, right, bind, and_then, token, symbol_token, Stands}
 use Rattle.pm_canonical.proofs.Standing.{stands_point, stands_open, stands_close, stands_star, stands_as}
 use Rattle.pm_canonical.proofs.Quoting.{content_name}
 
@@ -55,7 +55,7 @@ column_with (Some alias) name =
     bind IsName (λ first next ts. next (record { alias = None; name = first }) ts ⊎ Is (is symbol.Point) (λ _. IsName (λ n. next (record { alias = Some first; name = n }))) ts)
     (λ y. unplaced_name y ≡ unplaced_name alias) _ (shape_name alias.text ∷ []) (sign symbol.Point ∷ shape_name name.text ∷ []) (name_read alias)
     (λ first same. right (λ next. next (record { alias = None; name = first })) (λ next. Is (is symbol.Point) (λ _. IsName (λ n. next (record { alias = Some first; name = n })))) _ (sign symbol.Point ∷ shape_name name.text ∷ [])
-    (behind symbol.Point (sign symbol.Point) stands_point (λ _ next. IsName (λ n. next (record { alias = Some first; name = n }))) _ (shape_name name.text ∷ [])
+    (and_then symbol.Point (sign symbol.Point) stands_point (λ _ next. IsName (λ n. next (record { alias = Some first; name = n }))) _ (shape_name name.text ∷ [])
     (λ _ _. mapped IsName (λ n. record { alias = Some first; name = n }) (λ y. unplaced_name y ≡ unplaced_name name) _ (shape_name name.text ∷ []) (name_read name)
     (λ n is. ap (λ x. record { alias = Some x; name = unplaced_name n }) same ∙ ap (λ x. record { alias = Some (unplaced_name alias); name = x }) is))))
 
@@ -70,7 +70,7 @@ given_read None =
 given_read (Some name) =
     right (λ next. next None) (λ next ts. IsName (λ n. next (Some n)) ts ⊎ Is (is symbol.As) (λ _. IsName (λ n. next (Some n))) ts) _ (word symbol.As ∷ shape_name name.text ∷ [])
     (right (λ next. IsName (λ n. next (Some n))) (λ next. Is (is symbol.As) (λ _. IsName (λ n. next (Some n)))) _ (word symbol.As ∷ shape_name name.text ∷ [])
-    (behind symbol.As (word symbol.As) stands_as (λ _ next. IsName (λ n. next (Some n))) _ (shape_name name.text ∷ [])
+    (and_then symbol.As (word symbol.As) stands_as (λ _ next. IsName (λ n. next (Some n))) _ (shape_name name.text ∷ [])
     (λ _ _. mapped IsName (λ n. Some n) (λ y. unplaced_name y ≡ unplaced_name name) _ (shape_name name.text ∷ []) (name_read name) (λ n same. ap (λ x. Some x) same))))
 
 -- the function that its name in capitals names
@@ -92,9 +92,9 @@ count_all_read at =
     bind (Is counts) (λ count next. Is (is symbol.Open) (λ _. Is (is symbol.Star) (λ _. Is (is symbol.Close) (λ _. next (expr.CountAll count.at))))) (λ t. shape_of t ≡ shape_func func.Count) _
     (shape_func func.Count ∷ []) (sign symbol.Open ∷ sign symbol.Star ∷ sign symbol.Close ∷ [])
     (token counts (shape_func func.Count) (λ t e. ap is_count (func_is func.Count t e)))
-    (λ count _. behind symbol.Open (sign symbol.Open) stands_open (λ _ next. Is (is symbol.Star) (λ _. Is (is symbol.Close) (λ _. next (expr.CountAll count.at)))) _ (sign symbol.Star ∷ sign symbol.Close ∷ [])
-    (λ _ _. behind symbol.Star (sign symbol.Star) stands_star (λ _ next. Is (is symbol.Close) (λ _. next (expr.CountAll count.at))) _ (sign symbol.Close ∷ [])
-    (λ _ _. behind symbol.Close (sign symbol.Close) stands_close (λ _ next. next (expr.CountAll count.at)) _ []
+    (λ count _. and_then symbol.Open (sign symbol.Open) stands_open (λ _ next. Is (is symbol.Star) (λ _. Is (is symbol.Close) (λ _. next (expr.CountAll count.at)))) _ (sign symbol.Star ∷ sign symbol.Close ∷ [])
+    (λ _ _. and_then symbol.Star (sign symbol.Star) stands_star (λ _ next. Is (is symbol.Close) (λ _. next (expr.CountAll count.at))) _ (sign symbol.Close ∷ [])
+    (λ _ _. and_then symbol.Close (sign symbol.Close) stands_close (λ _ next. next (expr.CountAll count.at)) _ []
     (λ _ _. pure _ (expr.CountAll count.at) refl))))
 
 call_read : (f : Func) (column : ColumnName) → Reading IsCall (λ y. unplaced_expr y ≡ expr.Call f (unplaced_column column) 0) (shape_func f ∷ sign symbol.Open ∷ shapes_column column ++ sign symbol.Close ∷ [])
@@ -102,9 +102,9 @@ call_read f column =
     bind (Is (λ t. is_some (func_of t))) (λ t next. Is (is symbol.Open) (λ _. IsColumn (λ c. Is (is symbol.Close) (λ _. next (expr.Call (unwrap_or (func_of t) func.Count) c t.at))))) (λ t. shape_of t ≡ shape_func f) _
     (shape_func f ∷ []) (sign symbol.Open ∷ shapes_column column ++ sign symbol.Close ∷ [])
     (token (λ t. is_some (func_of t)) (shape_func f) (λ t e. ap is_some (func_is f t e)))
-    (λ t e. behind symbol.Open (sign symbol.Open) stands_open (λ _ next. IsColumn (λ c. Is (is symbol.Close) (λ _. next (expr.Call (unwrap_or (func_of t) func.Count) c t.at)))) _ (shapes_column column ++ sign symbol.Close ∷ [])
+    (λ t e. and_then symbol.Open (sign symbol.Open) stands_open (λ _ next. IsColumn (λ c. Is (is symbol.Close) (λ _. next (expr.Call (unwrap_or (func_of t) func.Count) c t.at)))) _ (shapes_column column ++ sign symbol.Close ∷ [])
     (λ _ _. bind IsColumn (λ c next. Is (is symbol.Close) (λ _. next (expr.Call (unwrap_or (func_of t) func.Count) c t.at))) (λ y. unplaced_column y ≡ unplaced_column column) _ (shapes_column column) (sign symbol.Close ∷ []) (column_read column)
-    (λ c same. behind symbol.Close (sign symbol.Close) stands_close (λ _ next. next (expr.Call (unwrap_or (func_of t) func.Count) c t.at)) _ []
+    (λ c same. and_then symbol.Close (sign symbol.Close) stands_close (λ _ next. next (expr.Call (unwrap_or (func_of t) func.Count) c t.at)) _ []
     (λ _ _. pure _ (expr.Call (unwrap_or (func_of t) func.Count) c t.at)
     (ap (λ x. expr.Call (unwrap_or x func.Count) (unplaced_column c) 0) (func_is f t e) ∙ ap (λ x. expr.Call f x 0) same)))))
 

@@ -11,7 +11,7 @@ use Rattle.pm_lexer.specs.Pieces.{whole_len, decimals, decimals_len, number_len}
 use Rattle.pm_canonical.proofs.Runs.{Follows, run_whole, run_all, filter_all}
 use Rattle.pm_canonical.proofs.Formed.{IsNumber}
 
--- decimals behind their point, where there are any
+-- decimals after their point, where there are any
 abbrev pub point : List ℕ → List ℕ
 point [] = []
 point (x ∷ xs) = 46 ∷ (x ∷ xs)
@@ -62,20 +62,20 @@ number_is w d rest whole part ends = rw (decimals_is w d rest whole part ends, w
 
 -- the digits of a number, and how many there are
 pub digits_of : (w d : List ℕ) → list_all is_ascii_digit w ≡ true → list_all is_ascii_digit d ≡ true → filter is_ascii_digit (w ++ point d) ≡ w ++ d
-digits_of w d whole part = filter-append is_ascii_digit w (point d) ∙ ap (λ t. t ++ filter is_ascii_digit (point d)) (filter_all is_ascii_digit w whole) ∙ ap (λ t. w ++ t) (behind d part)
+digits_of w d whole part = filter-append is_ascii_digit w (point d) ∙ ap (λ t. t ++ filter is_ascii_digit (point d)) (filter_all is_ascii_digit w whole) ∙ ap (λ t. w ++ t) (after d part)
   where
-    behind : (d : List ℕ) → list_all is_ascii_digit d ≡ true → filter is_ascii_digit (point d) ≡ d
-    behind [] all = refl
-    behind (x ∷ d) all = filter_all is_ascii_digit (x ∷ d) all
+    after : (d : List ℕ) → list_all is_ascii_digit d ≡ true → filter is_ascii_digit (point d) ≡ d
+    after [] all = refl
+    after (x ∷ d) all = filter_all is_ascii_digit (x ∷ d) all
 
 pub number_formed : (w d : List ℕ) → 0 < length w → list_all is_ascii_digit w ≡ true → list_all is_ascii_digit d ≡ true → length d ≤ 6 → length w + length d ≤ 30 → IsNumber (w ++ point d)
-number_formed w d some whole part behind short =
+number_formed w d some whole part few short =
     let none = append-nil (point d) in
     let w_is : whole_len (w ++ point d) ≡ length w = rw none at (whole_is w d [] whole tt) in
     let d_is : decimals_len (w ++ point d) ≡ length d = rw none at (decimals_is w d [] whole part tt) in
     record {
       some = rw w_is some;
-      decimals = rw d_is behind;
+      decimals = rw d_is few;
       digits = rw (d_is, w_is) (ap length (digits_of w d whole part) ∙ length-append w d);
       short = rw (d_is, w_is) short;
     }
@@ -128,8 +128,8 @@ number_slice text =
     rw (long, whole) at (slice_by w rest)
 
 pub number_at_formed : (text : List ℕ) → 0 < whole_len text → decimals_len text ≤ 6 → whole_len text + decimals_len text ≤ 30 → IsNumber (take (number_len text) text)
-number_at_formed text some behind short =
+number_at_formed text some few short =
     let rest = drop (whole_len text) text in
     let long : length (take (whole_len text) text) ≡ whole_len text = length-prefix_len is_ascii_digit text in
     let part : length (part_of rest) ≡ decimals_len text = part_len rest in
-    rw (number_slice text) (number_formed (take (whole_len text) text) (part_of rest) (rw long some) (run_all is_ascii_digit text) (part_digits rest) (rw part behind) (rw (long, part) short))
+    rw (number_slice text) (number_formed (take (whole_len text) text) (part_of rest) (rw long some) (run_all is_ascii_digit text) (part_digits rest) (rw part few) (rw (long, part) short))

@@ -21,7 +21,7 @@ use Rattle.pm_canonical.specs.Canon.{padded, pointed}
 use Rattle.pm_canonical.proofs.Shapes.{Shape, shape_of, sign, word, shape_digits, shapes_number, shapes_expr, shapes_literal, shapes_atom}
 use Rattle.pm_syntax.specs.Same.{unplaced_expr, unplaced_atom}
 use Rattle.pm_canonical.proofs.Valid.{ValidNumber, ValidLiteral, ValidTerm, ValidAtom}
-use Rattle.pm_canonical.proofs.Combinators.{Reading, pure, shaped, mapped, left, right, bind, behind, symbol_token, Stands}
+use Rattle.pm_canonical.proofs.Combinators.{Reading, pure, shaped, mapped, left, right, bind, and_then, symbol_token, Stands}
 use Rattle.pm_canonical.proofs.Standing.{stands_null, stands_minus}
 use Rattle.pm_canonical.proofs.Quoting.{content_text}
 use Rattle.pm_canonical.proofs.Values.{digits_are, Pointed, pointed_is}
@@ -90,7 +90,7 @@ number_read (pos m) decimals valid =
 number_read (negsuc m) decimals valid =
     right Plain Others _ (sign symbol.Minus ∷ shape_digits (negsuc m) decimals ∷ [])
     (left Negative Words _ (sign symbol.Minus ∷ shape_digits (negsuc m) decimals ∷ [])
-    (behind symbol.Minus (sign symbol.Minus) stands_minus (λ _ next. Is (is symbol.Number) (λ n. next (literal.Number (neg_ℤ (pos (magnitude n))) (decimals_len n.slice)))) _ (shape_digits (negsuc m) decimals ∷ [])
+    (and_then symbol.Minus (sign symbol.Minus) stands_minus (λ _ next. Is (is symbol.Number) (λ n. next (literal.Number (neg_ℤ (pos (magnitude n))) (decimals_len n.slice)))) _ (shape_digits (negsuc m) decimals ∷ [])
     (λ _ _. bind (Is (is symbol.Number)) (λ n next. next (literal.Number (neg_ℤ (pos (magnitude n))) (decimals_len n.slice))) (λ t. shape_of t ≡ shape_digits (negsuc m) decimals) _ (shape_digits (negsuc m) decimals ∷ []) []
     (symbol_token symbol.Number (shape_digits (negsuc m) decimals) (digits_stand (negsuc m) decimals valid))
     (λ t e. pure _ (literal.Number (neg_ℤ (pos (magnitude t))) (decimals_len t.slice)) (number_of (negsuc m) decimals valid t e neg_ℤ)))))
@@ -111,7 +111,7 @@ text_read text =
 null_read : Reading IsLiteral (λ y. y ≡ literal.Null) (word symbol.Null ∷ [])
 null_read =
     right Plain Others _ (word symbol.Null ∷ []) (right Negative Words _ (word symbol.Null ∷ []) (right Texts Nulls _ (word symbol.Null ∷ [])
-    (behind symbol.Null (word symbol.Null) stands_null (λ _ next. next literal.Null) _ [] (λ _ _. pure _ literal.Null refl))))
+    (and_then symbol.Null (word symbol.Null) stands_null (λ _ next. next literal.Null) _ [] (λ _ _. pure _ literal.Null refl))))
 
 pub literal_read : (l : Literal) → ValidLiteral l → Reading IsLiteral (λ y. y ≡ l) (shapes_literal l)
 unfolding shapes_literal

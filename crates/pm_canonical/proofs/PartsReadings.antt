@@ -21,7 +21,7 @@ use Rattle.pm_syntax.specs.Grammar.{IsName, IsColumn, IsExpr, IsGiven, IsItem, I
 use Rattle.pm_canonical.proofs.Shapes.{Shape, sign, word, between, shape_name, shapes_column, shapes_expr, shapes_given, shapes_item, shapes_items, shapes_source, shapes_further, shapes_sources, shapes_test, shapes_condition, shapes_list, shapes_key}
 use Rattle.pm_syntax.specs.Same.{unplaced_option, unplaced_name, unplaced_column, unplaced_expr, unplaced_item, unplaced_items, unplaced_test, unplaced_source, unplaced_key}
 use Rattle.pm_canonical.proofs.Valid.{Where, ValidList, ValidPart, ValidColumn, ValidExpr, ValidItem, ValidItems, ValidSource, Unjoined, Fits, whole}
-use Rattle.pm_canonical.proofs.Combinators.{Reading, Stands, Entry, each, pure, shaped, better, mapped, left, right, bind, behind, given, more_read, list_of}
+use Rattle.pm_canonical.proofs.Combinators.{Reading, Stands, Entry, each, pure, shaped, better, mapped, left, right, bind, and_then, given, more_read, list_of}
 use Rattle.pm_canonical.proofs.Standing.{stands_star, stands_comma, stands_join, stands_left, stands_on, stands_where, stands_group, stands_by, stands_having, stands_order, stands_desc}
 use Rattle.pm_canonical.proofs.NameReadings.{name_read, column_read, expr_read, given_read}
 use Rattle.pm_canonical.proofs.LeafReadings.{SameTest}
@@ -77,7 +77,7 @@ Listed next = IsList never 64 IsItem (is symbol.Comma) (λ list. next (items.Lis
 pub items_read : (s : Items) → ValidItems s → Reading (IsItems never) (SameItems s) (shapes_items s)
 unfolding shapes_items
 items_read (items.All at) valid =
-    left StarOnly Listed _ (sign symbol.Star ∷ []) (behind symbol.Star (sign symbol.Star) stands_star (λ star next. next (items.All star.at)) (SameItems (items.All at)) [] (λ star _. pure _ (items.All star.at) refl))
+    left StarOnly Listed _ (sign symbol.Star ∷ []) (and_then symbol.Star (sign symbol.Star) stands_star (λ star next. next (items.All star.at)) (SameItems (items.All at)) [] (λ star _. pure _ (items.All star.at) refl))
 items_read (items.List list) valid =
     right StarOnly Listed _ (between (sign symbol.Comma) (map shapes_item list))
     (mapped (IsList never 64 IsItem (is symbol.Comma)) (λ r. items.List r) (λ r. map unplaced_item r ≡ map unplaced_item list) (SameItems (items.List list)) _
@@ -106,7 +106,7 @@ source_alone table alias = shaped _ _ _ _ (append-nil (shape_name table.text ∷
 
 join_condition : (on : Test) → Fits false whole 32 on → Reading (IsJoinCondition 32 never) (SameCondition (Some on)) (word symbol.On ∷ shapes_test on)
 join_condition on fits =
-    behind symbol.On (word symbol.On) stands_on (λ _ next. IsCondition false 32 never (λ cond. next (Some cond))) (SameCondition (Some on)) (shapes_test on)
+    and_then symbol.On (word symbol.On) stands_on (λ _ next. IsCondition false 32 never (λ cond. next (Some cond))) (SameCondition (Some on)) (shapes_test on)
     (λ _ _. mapped (IsCondition false 32 never) (λ cond. Some cond) (SameTest on) (SameCondition (Some on)) (shapes_test on) (fits_read false whole 32 on fits) (λ y e. ap (λ x. Some x) e))
 
 abbrev joined_shapes : PlacedName → Option PlacedName → Test → List Shape
@@ -137,7 +137,7 @@ Lefts C next = Is (is symbol.Left) (λ _. Outers C next)
 join_read : (l : Link) (C : Type 0) → C → (table : PlacedName) (alias : Option PlacedName) (on : Test) → Reading (IsOn 32 never l) (SameCondition (Some on)) (word symbol.On ∷ shapes_test on)
     → Reading (Joins l C) (SameSource (made (is_left l) table alias (Some on))) (word symbol.Join ∷ joined_shapes table alias on)
 join_read l C c table alias on p =
-    behind symbol.Join (word symbol.Join) stands_join (λ _ next ts. C × IsSource 32 never l next ts) _ (joined_shapes table alias on)
+    and_then symbol.Join (word symbol.Join) stands_join (λ _ next ts. C × IsSource 32 never l next ts) _ (joined_shapes table alias on)
     (λ _ _. given (IsSource 32 never l) _ _ C c (source_with l table alias (Some on) (word symbol.On ∷ shapes_test on) p))
 
 outer_read : (C : Type 0) → C → (table : PlacedName) (alias : Option PlacedName) (on : Test) → Fits false whole 32 on → Reading (Outers C) (SameSource (made true table alias (Some on))) (word symbol.Join ∷ joined_shapes table alias on)
@@ -152,7 +152,7 @@ unfolding shapes_source
 further_with table alias None true fits unjoined C c = absurd (let bad = unjoined refl in cc bad)
 further_with table alias None false fits unjoined C c =
     left (Commas C) (λ next ts. Joins link.Join C next ts ⊎ Inners C next ts ⊎ Lefts C next ts) _ (sign symbol.Comma ∷ shape_name table.text ∷ shapes_given alias)
-    (behind symbol.Comma (sign symbol.Comma) stands_comma (λ _ next ts. C × IsSource 32 never link.Comma next ts) _ (shape_name table.text ∷ shapes_given alias)
+    (and_then symbol.Comma (sign symbol.Comma) stands_comma (λ _ next ts. C × IsSource 32 never link.Comma next ts) _ (shape_name table.text ∷ shapes_given alias)
     (λ _ _. given (IsSource 32 never link.Comma) _ _ C c (source_alone table alias)))
 further_with table alias (Some on) false fits unjoined C c =
     right (Commas C) (λ next ts. Joins link.Join C next ts ⊎ Inners C next ts ⊎ Lefts C next ts) _ _
@@ -160,7 +160,7 @@ further_with table alias (Some on) false fits unjoined C c =
 further_with table alias (Some on) true fits unjoined C c =
     right (Commas C) (λ next ts. Joins link.Join C next ts ⊎ Inners C next ts ⊎ Lefts C next ts) _ _
     (right (Joins link.Join C) (λ next ts. Inners C next ts ⊎ Lefts C next ts) _ _ (right (Inners C) (Lefts C) _ (word symbol.Left ∷ word symbol.Join ∷ joined_shapes table alias on)
-    (behind symbol.Left (word symbol.Left) stands_left (λ _. Outers C) _ (word symbol.Join ∷ joined_shapes table alias on) (λ _ _. outer_read C c table alias on fits))))
+    (and_then symbol.Left (word symbol.Left) stands_left (λ _. Outers C) _ (word symbol.Join ∷ joined_shapes table alias on) (λ _ _. outer_read C c table alias on fits))))
 
 pub sources_read : (sources : List Source) → ValidList 64 ValidSource sources → Unjoined sources → Reading (IsSources 32 never) (SameSources sources) (shapes_sources sources)
 sources_read [] valid alone = let some = valid.some in absurd (omega arith)
@@ -182,7 +182,7 @@ condition_read : (s : Symbol) (stands : Stands s (word s)) (grouped : Bool) (con
 condition_read s stands grouped None fits = left (λ next. next None) (Conditioned s grouped) _ [] (pure (SameCondition None) None refl)
 condition_read s stands grouped (Some cond) fits =
     right (λ next. next None) (Conditioned s grouped) _ (word s ∷ shapes_test cond)
-    (behind s (word s) stands (λ _ next. IsCondition grouped 32 never (λ c. next (Some c))) (SameCondition (Some cond)) (shapes_test cond)
+    (and_then s (word s) stands (λ _ next. IsCondition grouped 32 never (λ c. next (Some c))) (SameCondition (Some cond)) (shapes_test cond)
     (λ _ _. mapped (IsCondition grouped 32 never) (λ c. Some c) (SameTest cond) (SameCondition (Some cond)) (shapes_test cond) (fits_read grouped whole 32 cond fits) (λ y e. ap (λ x. Some x) e)))
 
 pub filter_read : (cond : Option Test) → Where (Fits false whole 32) cond → Reading (IsFilter 32 never) (SameCondition cond) (shapes_condition (word symbol.Where) cond)
@@ -200,8 +200,8 @@ part_read : {A B : Type 0} (s : Symbol) (stands : Stands s (word s)) (P : Lang A
 part_read s stands P u f V entry [] valid = left (λ next. next []) (By s P) _ [] (pure _ [] refl)
 part_read s stands P u f V entry (x ∷ xs) valid =
     right (λ next. next []) (By s P) _ (word s ∷ word symbol.By ∷ between (sign symbol.Comma) (map f (x ∷ xs)))
-    (behind s (word s) stands (λ _ next. Is (is symbol.By) (λ _. IsList never 64 P (is symbol.Comma) next)) _ (word symbol.By ∷ between (sign symbol.Comma) (map f (x ∷ xs)))
-    (λ _ _. behind symbol.By (word symbol.By) stands_by (λ _ next. IsList never 64 P (is symbol.Comma) next) _ (between (sign symbol.Comma) (map f (x ∷ xs)))
+    (and_then s (word s) stands (λ _ next. Is (is symbol.By) (λ _. IsList never 64 P (is symbol.Comma) next)) _ (word symbol.By ∷ between (sign symbol.Comma) (map f (x ∷ xs)))
+    (λ _ _. and_then symbol.By (word symbol.By) stands_by (λ _ next. IsList never 64 P (is symbol.Comma) next) _ (between (sign symbol.Comma) (map f (x ∷ xs)))
     (λ _ _. list_of 64 P symbol.Comma (sign symbol.Comma) stands_comma u f V entry (x ∷ xs) (omega arith) valid.within valid.each)))
 
 pub groups_read : (groups : List ColumnName) → ValidPart 64 ValidColumn groups → Reading (IsGroups never) (SameColumns groups) (shapes_list (word symbol.Group ∷ word symbol.By ∷ []) shapes_column groups)
@@ -212,7 +212,7 @@ direction_read false = left (λ next. next false) (λ next ts. Is (is symbol.Asc
 direction_read true =
     right (λ next. next false) (λ next ts. Is (is symbol.Asc) (λ _. next false) ts ⊎ Is (is symbol.Desc) (λ _. next true) ts) _ (word symbol.Desc ∷ [])
     (right (λ next. Is (is symbol.Asc) (λ _. next false)) (λ next. Is (is symbol.Desc) (λ _. next true)) _ (word symbol.Desc ∷ [])
-    (behind symbol.Desc (word symbol.Desc) stands_desc (λ _ next. next true) _ [] (λ _ _. pure _ true refl)))
+    (and_then symbol.Desc (word symbol.Desc) stands_desc (λ _ next. next true) _ [] (λ _ _. pure _ true refl)))
 
 key_read : (key : OrderItem) → Reading IsKey (SameKey key) (shapes_key key)
 unfolding shapes_key

@@ -8,7 +8,7 @@ use Rattle.pm_lexer.specs.Pieces.{longer, quotation, single_quotes, inside, cont
 use Rattle.pm_lexer.specs.Quoting.{doubled, quoted}
 use Rattle.pm_canonical.proofs.Runs.{Follows, all_head, all_tail, all_both}
 
--- the bytes before a closing quote, the quote, and what stands behind it
+-- the bytes before a closing quote, the quote, and what stands after it
 abbrev pub other_than : ℕ → ℕ → Bool
 other_than quote b = not (b == quote)
 

@@ -17,7 +17,7 @@ use Rattle.pm_syntax.specs.Statement.{Reads}
 use Rattle.pm_canonical.proofs.Shapes.{Shape, shape_of, end_shape, word, shapes_column, shapes_items, shapes_sources, shapes_condition, shapes_list, shapes_key, shapes_select}
 use Rattle.pm_syntax.specs.Same.{unplaced, SameStatement}
 use Rattle.pm_canonical.proofs.Valid.{Valid}
-use Rattle.pm_canonical.proofs.Combinators.{Whole, Reading, Stands, passes, pure, left, bind, behind}
+use Rattle.pm_canonical.proofs.Combinators.{Whole, Reading, Stands, passes, pure, left, bind, and_then}
 use Rattle.pm_canonical.proofs.Standing.{stands_select, stands_distinct, stands_from}
 use Rattle.pm_canonical.proofs.LeafReadings.{optional_read}
 use Rattle.pm_canonical.proofs.PartsReadings.{SameItems, SameSources, SameCondition, SameColumns, SameKeys, items_read, sources_read, filter_read, groups_read, having_read, orders_read}
@@ -59,7 +59,7 @@ end_read : (s y : Select) → Same s y → Reading (Ended y) (Same s) (end_shape
 end_read s y same =
     bind (IsOptional (is symbol.Semicolon)) (λ _ next. Is (is symbol.End) (λ _. next y)) (λ _. Unit {0}) (Same s) [] (end_shape ∷ [])
     (left (λ next. next None) (λ next. Is (is symbol.Semicolon) (λ t. next (Some t))) (λ _. Unit {0}) [] (pure (λ _. Unit {0}) None tt))
-    (λ _ _. behind symbol.End end_shape end_stands (λ _ next. next y) (Same s) [] (λ _ _. pure (Same s) y same))
+    (λ _ _. and_then symbol.End end_shape end_stands (λ _ next. next y) (Same s) [] (λ _ _. pure (Same s) y same))
 
 -- statements whose parts agree
 same_select : (s : Select) (distinct : Option Token) (items : Items) (sources : List Source) (filter : Option Test) (groups : List ColumnName) (having : Option Test) (orders : List OrderItem)
@@ -91,11 +91,11 @@ whole_is s = simp append_assoc
 
 whole_read : (s : Select) → Valid s → Reading (IsSelect 32 never) (Same s) (whole_shapes s)
 whole_read s valid =
-    behind symbol.Select (word symbol.Select) stands_select (λ _ next. IsOptional (is symbol.Distinct) (λ d. Itemed (built d) next)) (Same s) _
+    and_then symbol.Select (word symbol.Select) stands_select (λ _ next. IsOptional (is symbol.Distinct) (λ d. Itemed (built d) next)) (Same s) _
     (λ _ _. bind (IsOptional (is symbol.Distinct)) (λ d. Itemed (built d)) (λ d. is_some d ≡ s.distinct) (Same s) (if s.distinct then word symbol.Distinct ∷ [] else []) _
     (optional_read (is symbol.Distinct) (word symbol.Distinct) (passes symbol.Distinct (word symbol.Distinct) stands_distinct) s.distinct)
     (λ d e1. bind (IsItems never) (λ x next. Is (is symbol.From) (λ _. Sourced (built d x) next)) (SameItems s.items) (Same s) (shapes_items s.items) (word symbol.From ∷ tail_shapes s) (items_read s.items valid.items)
-    (λ x e2. behind symbol.From (word symbol.From) stands_from (λ _ next. Sourced (built d x) next) (Same s) (tail_shapes s) (λ _ _. tail_read s valid d x e1 e2))))
+    (λ x e2. and_then symbol.From (word symbol.From) stands_from (λ _ next. Sourced (built d x) next) (Same s) (tail_shapes s) (λ _ _. tail_read s valid d x e1 e2))))
 
 -- what is read back
 pub record Again (tokens : List Token) (s : Select) : Type 0 where

@@ -34,7 +34,7 @@ run_all p (x ∷ xs) =
       | false ↦ λ e. refl
     ] refl
 
--- and what stands behind it does not
+-- and what stands after it does not
 pub run_ends : (p : ℕ → Bool) (xs : List ℕ) → Follows (λ b. not (p b)) (drop (prefix_len p xs) xs)
 run_ends p [] = tt
 run_ends p (x ∷ xs) =

@@ -164,7 +164,7 @@ shapes_sources (first ∷ more) = shapes_source first ++ flat_map (λ s. shapes_
 unfoldable pub shapes_key : OrderItem → List Shape
 shapes_key key = shapes_expr key.expr ++ (if key.descending then word symbol.Desc ∷ [] else [])
 
--- a part behind its words, where there is one
+-- a part after its words, where there is one
 abbrev pub shapes_condition : Shape → Option Test → List Shape
 shapes_condition first None = []
 shapes_condition first (Some cond) = first ∷ shapes_test cond

@@ -36,8 +36,8 @@ pub sound_better : {A : Type 0} (P : Lang A) (V W : A → Type 0) → ((a : A) �
 sound_better P V W up p next ts formed h = let x = p next ts formed h in record { value = x.value; rest = x.rest; valid = up x.value x.valid; formed = x.formed; follows = x.follows }
 
 -- a token, and then a phrase
-pub sound_behind : {B : Type 0} (test : Token → Bool) (Q : Token → Lang B) (W : B → Type 0) → ((t : Token) → IsFormed t → test t ≡ true → Sound (Q t) W) → Sound (λ next. Is test (λ t. Q t next)) W
-sound_behind test Q W q = sound_bind (Is test) Q (λ t. IsFormed t × (test t ≡ true)) W (sound_token test) (λ t v. q t v.0 v.1)
+pub sound_after : {B : Type 0} (test : Token → Bool) (Q : Token → Lang B) (W : B → Type 0) → ((t : Token) → IsFormed t → test t ≡ true → Sound (Q t) W) → Sound (λ next. Is test (λ t. Q t next)) W
+sound_after test Q W q = sound_bind (Is test) Q (λ t. IsFormed t × (test t ≡ true)) W (sound_token test) (λ t v. q t v.0 v.1)
 
 pub sound_or : {A : Type 0} (P Q : Lang A) (V : A → Type 0) → Sound P V → Sound Q V → Sound (λ next ts. P next ts ⊎ Q next ts) V
 sound_or P Q V p q next ts formed h = elim h [ inl a ↦ p next ts formed a | inr b ↦ q next ts formed b ]

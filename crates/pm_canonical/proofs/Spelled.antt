@@ -102,7 +102,7 @@ number_piece m d ds is few short =
 spells_number : (value : ℤ) (decimals : ℕ) → ValidNumber value decimals → Spells ends (canon_number value decimals) (shapes_number value decimals)
 unfolding canon_number shapes_number
 spells_number value decimals valid =
-    let piece = number_piece (unsigned_abs value) decimals (padded (decimals + 1) (decimal (unsigned_abs value))) (digits_are (unsigned_abs value) decimals valid.small) valid.behind valid.short in
+    let piece = number_piece (unsigned_abs value) decimals (padded (decimals + 1) (decimal (unsigned_abs value))) (digits_are (unsigned_abs value) decimals valid.small) valid.few valid.short in
     let slice : List ℕ = pointed decimals (padded (decimals + 1) (decimal (unsigned_abs value))) in
     elim (int_lt value (pos 0)) as (λ t. Spells ends ((if t then codes "-" else []) ++ slice) ((if t then sign symbol.Minus ∷ [] else []) ++ shape_digits value decimals ∷ [])) [
       | true ↦ spells_both spells_minus piece.spelled (λ rest after. piece.first rest)

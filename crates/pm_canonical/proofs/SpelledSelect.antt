@@ -22,7 +22,7 @@ use Rattle.pm_canonical.proofs.Wording.{spells_select, spells_distinct, spells_f
 use Rattle.pm_canonical.proofs.Spelled.{spells_any, ends_early, spells_name, spells_column, spells_expr, spells_joined, every_spells}
 use Rattle.pm_canonical.proofs.SpelledTests.{four, spells_fits}
 
--- names behind AS
+-- names after AS
 spells_given : (given : Option PlacedName) → Where ValidPlaced given → Spells ends (canon_given given) (shapes_given given)
 unfolding canon_given shapes_given
 spells_given None valid = spells_none
@@ -82,7 +82,7 @@ spells_sources : (sources : List Source) → Every ValidSource sources → Spell
 spells_sources [] every = spells_none
 spells_sources (s ∷ sources) every = spells_then (spells_source s every.0) (spells_more sources every.1) (more_first sources)
 
--- conditions and lists behind their words
+-- conditions and lists after their words
 spells_condition : (grouped : Bool) (words : List ℕ) (s : Shape) → Spells any words (s ∷ []) → (cond : Option Test) → Where (Fits grouped Role.whole 32) cond → Spells ends (canon_condition words cond) (shapes_condition s cond)
 spells_condition grouped words s spelled None fits = spells_none
 spells_condition grouped words s spelled (Some cond) fits = spells_after spelled (spells_fits grouped Role.whole 32 cond fits)

@@ -14,7 +14,7 @@ use Rattle.pm_canonical.proofs.Spelling.{Spells, any, ends, spells_none, spells_
 use Rattle.pm_canonical.proofs.Wording.{reserved_spells, word_before, spells_open, spells_close, spells_and, spells_or, spells_not, spells_is, spells_null, spells_between, spells_comma}
 use Rattle.pm_canonical.proofs.Spelled.{spells_any, spells_literal, spells_atom, spells_comparison, comparison_first, EachSpells, spells_joined, every_spells}
 
--- pieces one behind the other, the last ones first
+-- pieces one after the other, the last ones first
 pub four : (a b c d : List ℕ) → a ++ b ++ c ++ d ≡ a ++ (b ++ (c ++ d))
 four a b c d = simp append_assoc
 

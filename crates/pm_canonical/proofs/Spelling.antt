@@ -6,14 +6,14 @@ use Rattle.pm_lexer.specs.declared.token.Token.{Token}
 use Rattle.pm_lexer.specs.declared.token.TokenKind.{TokenKind}
 use Rattle.pm_lexer.specs.declared.head.Head.TheVariants as head
 use Rattle.pm_lexer.specs.Head.{head_of}
-use Rattle.pm_lexer.specs.Tokens.{end_token, tokens_behind}
+use Rattle.pm_lexer.specs.Tokens.{end_token, tokens_after}
 use Rattle.pm_lexer.proofs.Walk.{walk_gap, walk_piece, walk_end}
 use Rattle.pm_canonical.proofs.Shapes.{Shape, shape_of, end_shape}
 use Rattle.pm_canonical.proofs.Runs.{Follows, follows_append, follows_weaker}
 
 -- at each place this text has tokens of these shapes
 abbrev pub Lexes : List ℕ → List Shape → Type 0
-Lexes text shapes = (at : ℕ) → (tokens : List Token) × (tokens_behind 0 at text ≡ Ok tokens) × (map shape_of tokens ≡ shapes)
+Lexes text shapes = (at : ℕ) → (tokens : List Token) × (tokens_after 0 at text ≡ Ok tokens) × (map shape_of tokens ≡ shapes)
 
 pub lexes_end : Lexes [] (end_shape ∷ [])
 lexes_end at = (end_token at ∷ [], walk_end at [] refl, refl)
@@ -65,7 +65,7 @@ spells_piece k slice some opens = record { lexes = λ rest more after lexes. lex
 pub spells_weaker : {p q : ℕ → Bool} {text : List ℕ} {shapes : List Shape} → ((b : ℕ) → q b ≡ true → p b ≡ true) → Spells p text shapes → Spells q text shapes
 spells_weaker {p} {q} weaker first = record { lexes = λ rest more after lexes. first.lexes rest more (follows_weaker q p weaker rest after) lexes }
 
--- one part behind the other
+-- one part after the other
 pub spells_both : {p q : ℕ → Bool} {a b : List ℕ} {x y : List Shape} → Spells p a x → Spells q b y → ((rest : List ℕ) → Follows q rest → Follows p (b ++ rest)) → Spells q (a ++ b) (x ++ y)
 spells_both {p} {q} {a} {b} {x} {y} first second meets = record {
   lexes = λ rest more after lexes. rw (append_assoc a b rest, append_assoc x y more) (first.lexes (b ++ rest) (y ++ more) (meets rest after) (second.lexes rest more after lexes));

@@ -10,7 +10,7 @@ use Rattle.pm_syntax.specs.Grammar.{IsTest, IsPart, IsPartAnd, IsCondition, all_
 use Rattle.pm_canonical.proofs.Shapes.{Shape, Phrase, sign, word, between, member_shapes, in_parens, list_word, shapes_layer, phrase_of}
 use Rattle.pm_syntax.specs.Same.{unplaced_layer, unplaced_test}
 use Rattle.pm_canonical.proofs.Valid.{ValidLeaf, Role, whole, in_or, in_and, Fits, leaf, negated, any_list, any_in_or, any_in_and, all_list, all_in_or, all_in_and, FitsEach, no_members, member}
-use Rattle.pm_canonical.proofs.Combinators.{Reading, Each, shaped, mapped, left, right, bind, behind, pure, list_read}
+use Rattle.pm_canonical.proofs.Combinators.{Reading, Each, shaped, mapped, left, right, bind, and_then, pure, list_read}
 use Rattle.pm_canonical.proofs.Standing.{stands_not, stands_open, stands_close, stands_and, stands_or}
 use Rattle.pm_canonical.proofs.Folds.{fold_any, fold_all, fold_not}
 use Rattle.pm_canonical.proofs.LeafReadings.{SameTest, leaf_read, leaf_plain}
@@ -56,16 +56,16 @@ part_not : (grouped : Bool) (d : ℕ) (t : Test) (s : List Shape) → Reading (P
 unfolding IsPart
 part_not grouped d t s p =
     left (Nots grouped d) (Tail grouped d) _ (word symbol.Not ∷ s)
-    (behind symbol.Not (word symbol.Not) stands_not (λ _ next. Part grouped d (λ part. next (test.Not part))) _ s
+    (and_then symbol.Not (word symbol.Not) stands_not (λ _ next. Part grouped d (λ part. next (test.Not part))) _ s
     (λ _ _. mapped (Part grouped d) (λ part. test.Not part) (SameTest t) _ s p (λ y same. fold_not unplaced_layer y ∙ ap (λ x. test.Not x) same ∙ sym (fold_not unplaced_layer t))))
 
 part_parens : (grouped : Bool) (d : ℕ) (G : Test → Type 0) (s : List Shape) → Reading (Cond grouped d) G s → Reading (Part grouped (suc d)) G (sign symbol.Open ∷ s ++ sign symbol.Close ∷ [])
 unfolding IsPart
 part_parens grouped d G s p =
     right (Nots grouped d) (Tail grouped d) G _ (left (Parens grouped d) (IsTest grouped never) G (sign symbol.Open ∷ s ++ sign symbol.Close ∷ [])
-    (behind symbol.Open (sign symbol.Open) stands_open (λ _ next. Cond grouped d (λ t. Is (is symbol.Close) (λ _. next t))) G (s ++ sign symbol.Close ∷ [])
+    (and_then symbol.Open (sign symbol.Open) stands_open (λ _ next. Cond grouped d (λ t. Is (is symbol.Close) (λ _. next t))) G (s ++ sign symbol.Close ∷ [])
     (λ _ _. bind (Cond grouped d) (λ t next. Is (is symbol.Close) (λ _. next t)) G G s (sign symbol.Close ∷ []) p
-    (λ t g. behind symbol.Close (sign symbol.Close) stands_close (λ _ next. next t) G [] (λ _ _. pure G t g)))))
+    (λ t g. and_then symbol.Close (sign symbol.Close) stands_close (λ _ next. next t) G [] (λ _ _. pure G t g)))))
 
 -- what a role reads, and which tokens
 abbrev At : Bool → Role → ℕ → Lang Test

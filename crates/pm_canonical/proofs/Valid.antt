@@ -58,7 +58,7 @@ ValidExpr (expr.CountAll at) = Unit {0}
 ValidExpr (expr.Call f column at) = ValidColumn column
 
 pub record ValidNumber (value : ℤ) (decimals : ℕ) : Type 0 where
-  pub behind : decimals ≤ 6
+  pub few : decimals ≤ 6
   pub small : unsigned_abs value < 10 ^ 30
   pub short : length (padded (decimals + 1) (decimal (unsigned_abs value))) ≤ 30
 
@@ -85,7 +85,7 @@ pub data ValidLeaf (grouped : Bool) : Test → Type 0 where
   listed : (of : Atom) (list : List Literal) (negated : Bool) (at : ℕ) → ValidAtom grouped of → ValidList 256 ValidLiteral list → ValidLeaf grouped (test.OneOf of list negated at)
   ranged : (of low high : Atom) (negated : Bool) (at : ℕ) → ValidAtom grouped of → ValidAtom grouped low → ValidAtom grouped high → ValidLeaf grouped (test.Between of low high negated at)
 
--- as what a test stands: as a condition, as a member of an OR list, or as a member of an AND list or behind NOT
+-- as what a test stands: as a condition, as a member of an OR list, or as a member of an AND list or after NOT
 pub data Role : Type 0 where
   whole : Role
   in_or : Role

@@ -59,7 +59,7 @@ abs_neg (suc m) = refl
 number_is_valid : (value : ℤ) (m : ℕ) (slice : List ℕ) → unsigned_abs value ≡ m → m ≡ magnitude_of slice → IsNumber slice → ValidNumber value (decimals_len slice)
 number_is_valid value m slice e f n =
     let small : m < 10 ^ 30 = rw f (magnitude_small slice n) in
-    record { behind = n.decimals; small = rw e small; short = rw e (padded_length m (decimals_len slice) small n.decimals) }
+    record { few = n.decimals; small = rw e small; short = rw e (padded_length m (decimals_len slice) small n.decimals) }
 
 pub number_valid : (t : Token) → IsFormed t → is symbol.Number t ≡ true → ValidNumber (pos (magnitude t)) (decimals_len t.slice) × ValidNumber (neg_ℤ (pos (magnitude t))) (decimals_len t.slice)
 unfolding symbol_of

@@ -18,7 +18,7 @@ use Rattle.pm_grammar.specs.Language.{IsOptional}
 use Rattle.pm_syntax.specs.Grammar.{IsName, IsColumn, counts, IsCountAll, IsCall, IsExpr, IsLiteral, IsTerm, IsOperand, IsCompare, IsNullTest, IsIn, IsBetween, IsTest, IsGiven}
 use Rattle.pm_canonical.proofs.Valid.{Where, ValidList, ValidPlaced, ValidColumn, ValidExpr, ValidLiteral, ValidTerm, ValidAtom, ValidLeaf, compared, null_test, listed, ranged}
 use Rattle.pm_canonical.proofs.Formed.{IsFormed}
-use Rattle.pm_canonical.proofs.Sound.{Sound, sound, sound_token, sound_bind, sound_map, sound_behind, sound_or, sound_list}
+use Rattle.pm_canonical.proofs.Sound.{Sound, sound, sound_token, sound_bind, sound_map, sound_after, sound_or, sound_list}
 use Rattle.pm_canonical.proofs.ValidNames.{placed_valid, number_valid}
 
 pub sound_name : Sound IsName ValidPlaced
@@ -29,7 +29,7 @@ sound_column =
     sound_bind IsName (λ first next ts. next (record { alias = None; name = first }) ts ⊎ Is (is symbol.Point) (λ _. IsName (λ name. next (record { alias = Some first; name = name }))) ts) ValidPlaced ValidColumn sound_name
     (λ first valid. sound_or (λ next. next (record { alias = None; name = first })) (λ next. Is (is symbol.Point) (λ _. IsName (λ name. next (record { alias = Some first; name = name })))) ValidColumn
     (sound ValidColumn (record { alias = None; name = first }) (record { alias = tt; name = valid }))
-    (sound_behind (is symbol.Point) (λ _ next. IsName (λ name. next (record { alias = Some first; name = name }))) ValidColumn
+    (sound_after (is symbol.Point) (λ _ next. IsName (λ name. next (record { alias = Some first; name = name }))) ValidColumn
     (λ _ _ _. sound_map IsName (λ name. record { alias = Some first; name = name }) ValidPlaced ValidColumn sound_name (λ name v. record { alias = valid; name = v }))))
 
 pub sound_given : Sound IsGiven (Where ValidPlaced)
@@ -37,21 +37,21 @@ sound_given =
     sound_or (λ next. next None) (λ next ts. IsName (λ name. next (Some name)) ts ⊎ Is (is symbol.As) (λ _. IsName (λ name. next (Some name))) ts) (Where ValidPlaced) (sound (Where ValidPlaced) None tt)
     (sound_or (λ next. IsName (λ name. next (Some name))) (λ next. Is (is symbol.As) (λ _. IsName (λ name. next (Some name)))) (Where ValidPlaced)
     (sound_map IsName (λ name. Some name) ValidPlaced (Where ValidPlaced) sound_name (λ name v. v))
-    (sound_behind (is symbol.As) (λ _ next. IsName (λ name. next (Some name))) (Where ValidPlaced) (λ _ _ _. sound_map IsName (λ name. Some name) ValidPlaced (Where ValidPlaced) sound_name (λ name v. v))))
+    (sound_after (is symbol.As) (λ _ next. IsName (λ name. next (Some name))) (Where ValidPlaced) (λ _ _ _. sound_map IsName (λ name. Some name) ValidPlaced (Where ValidPlaced) sound_name (λ name v. v))))
 
 sound_count_all : Sound IsCountAll ValidExpr
 sound_count_all =
-    sound_behind counts (λ count next. Is (is symbol.Open) (λ _. Is (is symbol.Star) (λ _. Is (is symbol.Close) (λ _. next (expr.CountAll count.at))))) ValidExpr
-    (λ count _ _. sound_behind (is symbol.Open) (λ _ next. Is (is symbol.Star) (λ _. Is (is symbol.Close) (λ _. next (expr.CountAll count.at)))) ValidExpr
-    (λ _ _ _. sound_behind (is symbol.Star) (λ _ next. Is (is symbol.Close) (λ _. next (expr.CountAll count.at))) ValidExpr
-    (λ _ _ _. sound_behind (is symbol.Close) (λ _ next. next (expr.CountAll count.at)) ValidExpr (λ _ _ _. sound ValidExpr (expr.CountAll count.at) tt))))
+    sound_after counts (λ count next. Is (is symbol.Open) (λ _. Is (is symbol.Star) (λ _. Is (is symbol.Close) (λ _. next (expr.CountAll count.at))))) ValidExpr
+    (λ count _ _. sound_after (is symbol.Open) (λ _ next. Is (is symbol.Star) (λ _. Is (is symbol.Close) (λ _. next (expr.CountAll count.at)))) ValidExpr
+    (λ _ _ _. sound_after (is symbol.Star) (λ _ next. Is (is symbol.Close) (λ _. next (expr.CountAll count.at))) ValidExpr
+    (λ _ _ _. sound_after (is symbol.Close) (λ _ next. next (expr.CountAll count.at)) ValidExpr (λ _ _ _. sound ValidExpr (expr.CountAll count.at) tt))))
 
 sound_call : Sound IsCall ValidExpr
 sound_call =
-    sound_behind (λ t. is_some (func_of t)) (λ f next. Is (is symbol.Open) (λ _. IsColumn (λ column. Is (is symbol.Close) (λ _. next (expr.Call (unwrap_or (func_of f) func.Count) column f.at))))) ValidExpr
-    (λ f _ _. sound_behind (is symbol.Open) (λ _ next. IsColumn (λ column. Is (is symbol.Close) (λ _. next (expr.Call (unwrap_or (func_of f) func.Count) column f.at)))) ValidExpr
+    sound_after (λ t. is_some (func_of t)) (λ f next. Is (is symbol.Open) (λ _. IsColumn (λ column. Is (is symbol.Close) (λ _. next (expr.Call (unwrap_or (func_of f) func.Count) column f.at))))) ValidExpr
+    (λ f _ _. sound_after (is symbol.Open) (λ _ next. IsColumn (λ column. Is (is symbol.Close) (λ _. next (expr.Call (unwrap_or (func_of f) func.Count) column f.at)))) ValidExpr
     (λ _ _ _. sound_bind IsColumn (λ column next. Is (is symbol.Close) (λ _. next (expr.Call (unwrap_or (func_of f) func.Count) column f.at))) ValidColumn ValidExpr sound_column
-    (λ column valid. sound_behind (is symbol.Close) (λ _ next. next (expr.Call (unwrap_or (func_of f) func.Count) column f.at)) ValidExpr
+    (λ column valid. sound_after (is symbol.Close) (λ _ next. next (expr.Call (unwrap_or (func_of f) func.Count) column f.at)) ValidExpr
     (λ _ _ _. sound ValidExpr (expr.Call (unwrap_or (func_of f) func.Count) column f.at) valid))))
 
 pub sound_expr : Sound IsExpr ValidExpr
@@ -68,11 +68,11 @@ sound_literal =
     sound_or (λ next. Is (is symbol.Number) (λ n. next (literal.Number (pos (magnitude n)) (decimals_len n.slice)))) _ ValidLiteral
     (sound_map (Is (is symbol.Number)) (λ n. literal.Number (pos (magnitude n)) (decimals_len n.slice)) Numeral ValidLiteral (sound_token (is symbol.Number)) (λ n v. (number_valid n v.0 v.1).0))
     (sound_or (λ next. Is (is symbol.Minus) (λ _. Is (is symbol.Number) (λ n. next (literal.Number (neg_ℤ (pos (magnitude n))) (decimals_len n.slice))))) _ ValidLiteral
-    (sound_behind (is symbol.Minus) (λ _ next. Is (is symbol.Number) (λ n. next (literal.Number (neg_ℤ (pos (magnitude n))) (decimals_len n.slice)))) ValidLiteral
+    (sound_after (is symbol.Minus) (λ _ next. Is (is symbol.Number) (λ n. next (literal.Number (neg_ℤ (pos (magnitude n))) (decimals_len n.slice)))) ValidLiteral
     (λ _ _ _. sound_map (Is (is symbol.Number)) (λ n. literal.Number (neg_ℤ (pos (magnitude n))) (decimals_len n.slice)) Numeral ValidLiteral (sound_token (is symbol.Number)) (λ n v. (number_valid n v.0 v.1).1)))
     (sound_or (λ next. Is (is symbol.Text) (λ text. next (literal.Text (content_of text)))) (λ next. Is (is symbol.Null) (λ _. next literal.Null)) ValidLiteral
-    (sound_behind (is symbol.Text) (λ text next. next (literal.Text (content_of text))) ValidLiteral (λ text _ _. sound ValidLiteral (literal.Text (content_of text)) tt))
-    (sound_behind (is symbol.Null) (λ _ next. next literal.Null) ValidLiteral (λ _ _ _. sound ValidLiteral literal.Null tt))))
+    (sound_after (is symbol.Text) (λ text next. next (literal.Text (content_of text))) ValidLiteral (λ text _ _. sound ValidLiteral (literal.Text (content_of text)) tt))
+    (sound_after (is symbol.Null) (λ _ next. next literal.Null) ValidLiteral (λ _ _ _. sound ValidLiteral literal.Null tt))))
 
 sound_term : (grouped : Bool) → Sound (IsTerm grouped) (ValidTerm grouped)
 sound_term true = sound_expr
@@ -86,35 +86,35 @@ sound_operand grouped =
 
 pub sound_optional : (test : Token → Bool) → Sound (IsOptional test) (λ _. Unit {0})
 sound_optional test =
-    sound_or (λ next. next None) (λ next. Is test (λ t. next (Some t))) (λ _. Unit {0}) (sound (λ _. Unit {0}) None tt) (sound_behind test (λ t next. next (Some t)) (λ _. Unit {0}) (λ t _ _. sound (λ _. Unit {0}) (Some t) tt))
+    sound_or (λ next. next None) (λ next. Is test (λ t. next (Some t))) (λ _. Unit {0}) (sound (λ _. Unit {0}) None tt) (sound_after test (λ t next. next (Some t)) (λ _. Unit {0}) (λ t _ _. sound (λ _. Unit {0}) (Some t) tt))
 
 -- the tests that are no list and no NOT
 sound_compare : (grouped : Bool) (l : Atom) → ValidAtom grouped l → Sound (IsCompare grouped l) (ValidLeaf grouped)
 sound_compare grouped l lv =
-    sound_behind compares (λ sign next. IsOperand grouped (λ r. next (test.Compare (unwrap_or (comparison_of sign) comparison.Equal) l r sign.at))) (ValidLeaf grouped)
+    sound_after compares (λ sign next. IsOperand grouped (λ r. next (test.Compare (unwrap_or (comparison_of sign) comparison.Equal) l r sign.at))) (ValidLeaf grouped)
     (λ sign _ _. sound_map (IsOperand grouped) (λ r. test.Compare (unwrap_or (comparison_of sign) comparison.Equal) l r sign.at) (ValidAtom grouped) (ValidLeaf grouped) (sound_operand grouped)
     (λ r rv. compared (unwrap_or (comparison_of sign) comparison.Equal) l r sign.at lv rv))
 
 sound_null : (grouped : Bool) (of : Atom) → ValidAtom grouped of → Sound (IsNullTest of) (ValidLeaf grouped)
 sound_null grouped of valid =
-    sound_behind (is symbol.Is) (λ _ next. IsOptional (is symbol.Not) (λ o. Is (is symbol.Null) (λ _. next (test.IsNull of (is_some o))))) (ValidLeaf grouped)
+    sound_after (is symbol.Is) (λ _ next. IsOptional (is symbol.Not) (λ o. Is (is symbol.Null) (λ _. next (test.IsNull of (is_some o))))) (ValidLeaf grouped)
     (λ _ _ _. sound_bind (IsOptional (is symbol.Not)) (λ o next. Is (is symbol.Null) (λ _. next (test.IsNull of (is_some o)))) (λ _. Unit {0}) (ValidLeaf grouped) (sound_optional (is symbol.Not))
-    (λ o _. sound_behind (is symbol.Null) (λ _ next. next (test.IsNull of (is_some o))) (ValidLeaf grouped) (λ _ _ _. sound (ValidLeaf grouped) (test.IsNull of (is_some o)) (null_test of (is_some o) valid))))
+    (λ o _. sound_after (is symbol.Null) (λ _ next. next (test.IsNull of (is_some o))) (ValidLeaf grouped) (λ _ _ _. sound (ValidLeaf grouped) (test.IsNull of (is_some o)) (null_test of (is_some o) valid))))
 
 sound_in : (grouped : Bool) (of : Atom) (o : Option Token) → ValidAtom grouped of → Sound (IsIn never of o) (ValidLeaf grouped)
 sound_in grouped of o valid =
-    sound_behind (is symbol.In) (λ w next. Is (is symbol.Open) (λ _. IsList never 256 IsLiteral (is symbol.Comma) (λ l. Is (is symbol.Close) (λ _. next (test.OneOf of l (is_some o) (unwrap_or o w).at))))) (ValidLeaf grouped)
-    (λ w _ _. sound_behind (is symbol.Open) (λ _ next. IsList never 256 IsLiteral (is symbol.Comma) (λ l. Is (is symbol.Close) (λ _. next (test.OneOf of l (is_some o) (unwrap_or o w).at)))) (ValidLeaf grouped)
+    sound_after (is symbol.In) (λ w next. Is (is symbol.Open) (λ _. IsList never 256 IsLiteral (is symbol.Comma) (λ l. Is (is symbol.Close) (λ _. next (test.OneOf of l (is_some o) (unwrap_or o w).at))))) (ValidLeaf grouped)
+    (λ w _ _. sound_after (is symbol.Open) (λ _ next. IsList never 256 IsLiteral (is symbol.Comma) (λ l. Is (is symbol.Close) (λ _. next (test.OneOf of l (is_some o) (unwrap_or o w).at)))) (ValidLeaf grouped)
     (λ _ _ _. sound_bind (IsList never 256 IsLiteral (is symbol.Comma)) (λ l next. Is (is symbol.Close) (λ _. next (test.OneOf of l (is_some o) (unwrap_or o w).at))) (ValidList 256 ValidLiteral) (ValidLeaf grouped)
     (sound_list 256 IsLiteral (is symbol.Comma) ValidLiteral (omega arith) sound_literal)
-    (λ l v. sound_behind (is symbol.Close) (λ _ next. next (test.OneOf of l (is_some o) (unwrap_or o w).at)) (ValidLeaf grouped)
+    (λ l v. sound_after (is symbol.Close) (λ _ next. next (test.OneOf of l (is_some o) (unwrap_or o w).at)) (ValidLeaf grouped)
     (λ _ _ _. sound (ValidLeaf grouped) (test.OneOf of l (is_some o) (unwrap_or o w).at) (listed of l (is_some o) (unwrap_or o w).at valid v)))))
 
 sound_between : (grouped : Bool) (of : Atom) (o : Option Token) → ValidAtom grouped of → Sound (IsBetween grouped of o) (ValidLeaf grouped)
 sound_between grouped of o valid =
-    sound_behind (is symbol.Between) (λ w next. IsOperand grouped (λ low. Is (is symbol.And) (λ _. IsOperand grouped (λ high. next (test.Between of low high (is_some o) (unwrap_or o w).at))))) (ValidLeaf grouped)
+    sound_after (is symbol.Between) (λ w next. IsOperand grouped (λ low. Is (is symbol.And) (λ _. IsOperand grouped (λ high. next (test.Between of low high (is_some o) (unwrap_or o w).at))))) (ValidLeaf grouped)
     (λ w _ _. sound_bind (IsOperand grouped) (λ low next. Is (is symbol.And) (λ _. IsOperand grouped (λ high. next (test.Between of low high (is_some o) (unwrap_or o w).at)))) (ValidAtom grouped) (ValidLeaf grouped) (sound_operand grouped)
-    (λ low lv. sound_behind (is symbol.And) (λ _ next. IsOperand grouped (λ high. next (test.Between of low high (is_some o) (unwrap_or o w).at))) (ValidLeaf grouped)
+    (λ low lv. sound_after (is symbol.And) (λ _ next. IsOperand grouped (λ high. next (test.Between of low high (is_some o) (unwrap_or o w).at))) (ValidLeaf grouped)
     (λ _ _ _. sound_map (IsOperand grouped) (λ high. test.Between of low high (is_some o) (unwrap_or o w).at) (ValidAtom grouped) (ValidLeaf grouped) (sound_operand grouped)
     (λ high hv. ranged of low high (is_some o) (unwrap_or o w).at valid lv hv))))
 

@@ -22,7 +22,7 @@ use Rattle.pm_syntax.specs.Statement.{Reads}
 use Rattle.pm_canonical.proofs.Combinators.{Whole}
 use Rattle.pm_canonical.proofs.Valid.{Every, Where, ValidList, ValidPart, ValidPlaced, ValidColumn, ValidExpr, ValidItem, ValidItems, ValidSource, Unjoined, Fits, whole, Valid}
 use Rattle.pm_canonical.proofs.Formed.{IsFormed}
-use Rattle.pm_canonical.proofs.Sound.{Sound, Grown, sound, sound_bind, sound_map, sound_better, sound_behind, sound_or, sound_further, sound_list}
+use Rattle.pm_canonical.proofs.Sound.{Sound, Grown, sound, sound_bind, sound_map, sound_better, sound_after, sound_or, sound_further, sound_list}
 use Rattle.pm_canonical.proofs.ValidReads.{sound_name, sound_column, sound_given, sound_expr, sound_optional}
 use Rattle.pm_canonical.proofs.ValidTests.{sound_condition}
 
@@ -37,7 +37,7 @@ sound_item =
 sound_items : Sound (IsItems never) ValidItems
 sound_items =
     sound_or (λ next. Is (is symbol.Star) (λ star. next (items.All star.at))) (λ next. IsList never 64 IsItem (is symbol.Comma) (λ list. next (items.List list))) ValidItems
-    (sound_behind (is symbol.Star) (λ star next. next (items.All star.at)) ValidItems (λ star _ _. sound ValidItems (items.All star.at) tt))
+    (sound_after (is symbol.Star) (λ star next. next (items.All star.at)) ValidItems (λ star _ _. sound ValidItems (items.All star.at) tt))
     (sound_map (IsList never 64 IsItem (is symbol.Comma)) (λ list. items.List list) (ValidList 64 ValidItem) ValidItems (sound_list 64 IsItem (is symbol.Comma) ValidItem (omega arith) sound_item) (λ list v. v))
 
 -- sources: the first has no condition
@@ -48,7 +48,7 @@ record ValidOn (l : Link) (on : Option Test) : Type 0 where
 
 sound_condition_of : (l : Link) → (l ≡ link.Comma → ⊥) → Sound (IsJoinCondition 32 never) (ValidOn l)
 sound_condition_of l joins =
-    sound_behind (is symbol.On) (λ _ next. IsCondition false 32 never (λ cond. next (Some cond))) (ValidOn l)
+    sound_after (is symbol.On) (λ _ next. IsCondition false 32 never (λ cond. next (Some cond))) (ValidOn l)
     (λ _ _ _. sound_map (IsCondition false 32 never) (λ cond. Some cond) (Fits false whole 32) (ValidOn l) (sound_condition false 32)
     (λ cond fits. record { fits = fits; alone = λ e. absurd (joins e); unjoined = λ e. absurd (cc e) }))
 
@@ -72,18 +72,18 @@ sound_source l =
     (λ on v. record { source = record { table = tv; alias = av; on = v.fits; unjoined = v.unjoined }; alone = v.alone })))
 
 sound_join : (l : Link) → Sound (λ next. Is (is symbol.Join) (λ _. next l)) Nothing
-sound_join l = sound_behind (is symbol.Join) (λ _ next. next l) Nothing (λ _ _ _. sound Nothing l tt)
+sound_join l = sound_after (is symbol.Join) (λ _ next. next l) Nothing (λ _ _ _. sound Nothing l tt)
 
 sound_outer : Sound (λ next. IsOptional (is symbol.Outer) (λ _. Is (is symbol.Join) (λ _. next link.LeftJoin))) Nothing
 sound_outer = sound_bind (IsOptional (is symbol.Outer)) (λ _ next. Is (is symbol.Join) (λ _. next link.LeftJoin)) Nothing Nothing (sound_optional (is symbol.Outer)) (λ _ _. sound_join link.LeftJoin)
 
 sound_link : Sound IsLink Nothing
 sound_link =
-    sound_or (λ next. Is (is symbol.Comma) (λ _. next link.Comma)) _ Nothing (sound_behind (is symbol.Comma) (λ _ next. next link.Comma) Nothing (λ _ _ _. sound Nothing link.Comma tt))
+    sound_or (λ next. Is (is symbol.Comma) (λ _. next link.Comma)) _ Nothing (sound_after (is symbol.Comma) (λ _ next. next link.Comma) Nothing (λ _ _ _. sound Nothing link.Comma tt))
     (sound_or (λ next. Is (is symbol.Join) (λ _. next link.Join)) _ Nothing (sound_join link.Join)
     (sound_or (λ next. Is (is symbol.Inner) (λ _. Is (is symbol.Join) (λ _. next link.Join))) _ Nothing
-    (sound_behind (is symbol.Inner) (λ _ next. Is (is symbol.Join) (λ _. next link.Join)) Nothing (λ _ _ _. sound_join link.Join))
-    (sound_behind (is symbol.Left) (λ _ next. IsOptional (is symbol.Outer) (λ _. Is (is symbol.Join) (λ _. next link.LeftJoin))) Nothing (λ _ _ _. sound_outer))))
+    (sound_after (is symbol.Inner) (λ _ next. Is (is symbol.Join) (λ _. next link.Join)) Nothing (λ _ _ _. sound_join link.Join))
+    (sound_after (is symbol.Left) (λ _ next. IsOptional (is symbol.Outer) (λ _. Is (is symbol.Join) (λ _. next link.LeftJoin))) Nothing (λ _ _ _. sound_outer))))
 
 record ValidSources (sources : List Source) : Type 0 where
   list : ValidList 64 ValidSource sources
@@ -105,22 +105,22 @@ sound_sources =
 sound_where : (s : Symbol) (grouped : Bool) → Sound (λ next ts. next None ts ⊎ Is (is s) (λ _. IsCondition grouped 32 never (λ cond. next (Some cond))) ts) (Where (Fits grouped whole 32))
 sound_where s grouped =
     sound_or (λ next. next None) (λ next. Is (is s) (λ _. IsCondition grouped 32 never (λ cond. next (Some cond)))) (Where (Fits grouped whole 32)) (sound (Where (Fits grouped whole 32)) None tt)
-    (sound_behind (is s) (λ _ next. IsCondition grouped 32 never (λ cond. next (Some cond))) (Where (Fits grouped whole 32))
+    (sound_after (is s) (λ _ next. IsCondition grouped 32 never (λ cond. next (Some cond))) (Where (Fits grouped whole 32))
     (λ _ _ _. sound_map (IsCondition grouped 32 never) (λ cond. Some cond) (Fits grouped whole 32) (Where (Fits grouped whole 32)) (sound_condition grouped 32) (λ cond fits. fits)))
 
 sound_by : {A : Type 0} (s : Symbol) (P : Lang A) (V : A → Type 0) → Sound P V → Sound (λ next ts. next [] ts ⊎ Is (is s) (λ _. Is (is symbol.By) (λ _. IsList never 64 P (is symbol.Comma) next)) ts) (ValidPart 64 V)
 sound_by s P V p =
     sound_or (λ next. next []) (λ next. Is (is s) (λ _. Is (is symbol.By) (λ _. IsList never 64 P (is symbol.Comma) next))) (ValidPart 64 V) (sound (ValidPart 64 V) [] (record { within = omega arith; each = tt }))
-    (sound_behind (is s) (λ _ next. Is (is symbol.By) (λ _. IsList never 64 P (is symbol.Comma) next)) (ValidPart 64 V)
-    (λ _ _ _. sound_behind (is symbol.By) (λ _. IsList never 64 P (is symbol.Comma)) (ValidPart 64 V)
+    (sound_after (is s) (λ _ next. Is (is symbol.By) (λ _. IsList never 64 P (is symbol.Comma) next)) (ValidPart 64 V)
+    (λ _ _ _. sound_after (is symbol.By) (λ _. IsList never 64 P (is symbol.Comma)) (ValidPart 64 V)
     (λ _ _ _. sound_better (IsList never 64 P (is symbol.Comma)) (ValidList 64 V) (ValidPart 64 V) (λ xs v. record { within = v.within; each = v.each }) (sound_list 64 P (is symbol.Comma) V (omega arith) p))))
 
 sound_direction : Sound IsDirection Nothing
 sound_direction =
     sound_or (λ next. next false) _ Nothing (sound Nothing false tt)
     (sound_or (λ next. Is (is symbol.Asc) (λ _. next false)) (λ next. Is (is symbol.Desc) (λ _. next true)) Nothing
-    (sound_behind (is symbol.Asc) (λ _ next. next false) Nothing (λ _ _ _. sound Nothing false tt))
-    (sound_behind (is symbol.Desc) (λ _ next. next true) Nothing (λ _ _ _. sound Nothing true tt)))
+    (sound_after (is symbol.Asc) (λ _ next. next false) Nothing (λ _ _ _. sound Nothing false tt))
+    (sound_after (is symbol.Desc) (λ _ next. next true) Nothing (λ _ _ _. sound Nothing true tt)))
 
 abbrev ValidKey : OrderItem → Type 0
 ValidKey key = ValidExpr key.expr
@@ -134,7 +134,7 @@ sound_key =
 sound_end : (s : Select) → Valid s → Sound (λ next. IsOptional (is symbol.Semicolon) (λ _. Is (is symbol.End) (λ _. next s))) Valid
 sound_end s valid =
     sound_bind (IsOptional (is symbol.Semicolon)) (λ _ next. Is (is symbol.End) (λ _. next s)) Nothing Valid (sound_optional (is symbol.Semicolon))
-    (λ _ _. sound_behind (is symbol.End) (λ _ next. next s) Valid (λ _ _ _. sound Valid s valid))
+    (λ _ _. sound_after (is symbol.End) (λ _ next. next s) Valid (λ _ _ _. sound Valid s valid))
 
 abbrev Later : (List Source → Option Test → List ColumnName → Option Test → List OrderItem → Select) → Lang Select
 Later f next =
@@ -164,10 +164,10 @@ built distinct items sources filter groups having orders =
 
 sound_select : Sound (IsSelect 32 never) Valid
 sound_select =
-    sound_behind (is symbol.Select) (λ _ next. IsOptional (is symbol.Distinct) (λ d. IsItems never (λ i. Is (is symbol.From) (λ _. Later (built d i) next)))) Valid
+    sound_after (is symbol.Select) (λ _ next. IsOptional (is symbol.Distinct) (λ d. IsItems never (λ i. Is (is symbol.From) (λ _. Later (built d i) next)))) Valid
     (λ _ _ _. sound_bind (IsOptional (is symbol.Distinct)) (λ d next. IsItems never (λ i. Is (is symbol.From) (λ _. Later (built d i) next))) Nothing Valid (sound_optional (is symbol.Distinct))
     (λ d _. sound_bind (IsItems never) (λ i next. Is (is symbol.From) (λ _. Later (built d i) next)) ValidItems Valid sound_items
-    (λ i iv. sound_behind (is symbol.From) (λ _ next. Later (built d i) next) Valid
+    (λ i iv. sound_after (is symbol.From) (λ _ next. Later (built d i) next) Valid
     (λ _ _ _. sound_later (built d i) (λ sources filter groups having orders v1 v2 v3 v4 v5. record { items = iv; sources = v1.list; first = v1.first; filter = v2; groups = v3; having = v4; orders = v5 })))))
 
 every_of_all : {A : Type 0} (P : A → Type 0) (xs : List A) → All P xs → Every P xs

@@ -7,7 +7,7 @@ use Rattle.pm_syntax.specs.declared.tree.Test.{Test}
 use Rattle.pm_syntax.specs.declared.tree.Test.TheVariants as test
 use Rattle.pm_syntax.specs.Grammar.{IsTest, IsPart, IsPartAnd, IsCondition, all_of, any_of}
 use Rattle.pm_canonical.proofs.Valid.{Every, ValidList, ValidLeaf, Role, whole, in_or, in_and, Fits, leaf, negated, any_list, any_in_or, any_in_and, all_list, all_in_or, all_in_and, FitsEach, no_members, member}
-use Rattle.pm_canonical.proofs.Sound.{Sound, sound, sound_bind, sound_map, sound_better, sound_behind, sound_or, sound_list}
+use Rattle.pm_canonical.proofs.Sound.{Sound, sound, sound_bind, sound_map, sound_better, sound_after, sound_or, sound_list}
 use Rattle.pm_canonical.proofs.ValidReads.{sound_test}
 
 -- what fits within a depth fits within one more
@@ -74,12 +74,12 @@ sound_part grouped zero = sound_better (IsTest grouped never) (ValidLeaf grouped
 sound_part grouped (suc d) =
     let part = sound_part grouped d in
     sound_or (λ next. Is (is symbol.Not) (λ _. IsPart grouped d never (λ part. next (test.Not part)))) _ (Fits grouped in_and (suc d))
-    (sound_behind (is symbol.Not) (λ _ next. IsPart grouped d never (λ part. next (test.Not part))) (Fits grouped in_and (suc d))
+    (sound_after (is symbol.Not) (λ _ next. IsPart grouped d never (λ part. next (test.Not part))) (Fits grouped in_and (suc d))
     (λ _ _ _. sound_map (IsPart grouped d never) (λ t. test.Not t) (Fits grouped in_and d) (Fits grouped in_and (suc d)) part (λ t fits. negated in_and d t fits)))
     (sound_or (λ next. Is (is symbol.Open) (λ _. IsCondition grouped d never (λ cond. Is (is symbol.Close) (λ _. next cond)))) (IsTest grouped never) (Fits grouped in_and (suc d))
-    (sound_behind (is symbol.Open) (λ _ next. IsCondition grouped d never (λ cond. Is (is symbol.Close) (λ _. next cond))) (Fits grouped in_and (suc d))
+    (sound_after (is symbol.Open) (λ _ next. IsCondition grouped d never (λ cond. Is (is symbol.Close) (λ _. next cond))) (Fits grouped in_and (suc d))
     (λ _ _ _. sound_bind (IsCondition grouped d never) (λ cond next. Is (is symbol.Close) (λ _. next cond)) (Fits grouped whole d) (Fits grouped in_and (suc d)) (sound_cond grouped d part)
-    (λ cond fits. sound_behind (is symbol.Close) (λ _ next. next cond) (Fits grouped in_and (suc d)) (λ _ _ _. sound (Fits grouped in_and (suc d)) cond (and_from_whole grouped d cond fits)))))
+    (λ cond fits. sound_after (is symbol.Close) (λ _ next. next cond) (Fits grouped in_and (suc d)) (λ _ _ _. sound (Fits grouped in_and (suc d)) cond (and_from_whole grouped d cond fits)))))
     (sound_better (IsTest grouped never) (ValidLeaf grouped) (Fits grouped in_and (suc d)) (λ t valid. leaf in_and (suc d) t valid) (sound_test grouped)))
 
 pub sound_condition : (grouped : Bool) (d : ℕ) → Sound (IsCondition grouped d never) (Fits grouped whole d)

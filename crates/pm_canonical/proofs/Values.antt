@@ -99,7 +99,7 @@ digits_are m d small =
     }
 
 pub padded_length : (m d : ℕ) → m < 10 ^ 30 → d ≤ 6 → length (padded (d + 1) (decimal m)) ≤ 30
-padded_length m d small behind =
+padded_length m d small after =
     let zeros : List ℕ = replicate (d + 1 - length (decimal m)) 48 in
     let short : length (decimal m) ≤ 30 = length-decimal-le_wide 30 m (omega arith) small (omega arith) in
     omega (arith, length-append zeros (decimal m), length-replicate {A = ℕ} (d + 1 - length (decimal m)) 48)
@@ -117,8 +117,8 @@ pub pointed_parts : (d : ℕ) (ds : List ℕ) → d < length ds → pointed d ds
 pointed_parts zero ds long = let all : length ds - 0 ≡ length ds = omega arith in rw (all, drop_whole ds) (sym (append-nil (take (length ds) ds) ∙ take_all (length ds) ds (omega arith)))
 pointed_parts (suc d) ds long =
     let some : (suc d == 0) ≡ false = ne_eqb (suc d) 0 (λ h. absurd (omega arith)) in
-    let behind : 0 < length (drop (length ds - suc d) ds) = omega (arith, length-drop (length ds - suc d) ds) in
-    rw (some, point_some (drop (length ds - suc d) ds) behind) (append_assoc (take (length ds - suc d) ds) (46 ∷ []) (drop (length ds - suc d) ds))
+    let after : 0 < length (drop (length ds - suc d) ds) = omega (arith, length-drop (length ds - suc d) ds) in
+    rw (some, point_some (drop (length ds - suc d) ds) after) (append_assoc (take (length ds - suc d) ds) (46 ∷ []) (drop (length ds - suc d) ds))
 
 pub record Pointed (m d : ℕ) (slice : List ℕ) : Type 0 where
   pub value : magnitude_of slice ≡ m

@@ -24,12 +24,12 @@ pub name_spells : (w : List ℕ) → is_wordy w ≡ true → is_some (reserved_w
 name_spells w wordy free short some =
     spells_piece kind.Name w some (λ rest after. rw free at (word_opens w wordy short rest after))
 
--- a word before, between and behind blanks
+-- a word before, between and after blanks
 pub word_before : (s : Symbol) → Spells stops (spelling s) (word s ∷ []) → Spells any (spelling s ++ 32 ∷ []) (word s ∷ [])
 word_before s w = spells_at w spells_gap refl
 
-pub word_behind : (s : Symbol) → Spells stops (spelling s) (word s ∷ []) → Spells stops (32 ∷ spelling s) (word s ∷ [])
-word_behind s w = spells_after spells_gap w
+pub word_after : (s : Symbol) → Spells stops (spelling s) (word s ∷ []) → Spells stops (32 ∷ spelling s) (word s ∷ [])
+word_after s w = spells_after spells_gap w
 
 pub word_between : (s : Symbol) → Spells stops (spelling s) (word s ∷ []) → Spells any (32 ∷ (spelling s ++ 32 ∷ [])) (word s ∷ [])
 word_between s w = spells_after spells_gap (word_before s w)
@@ -87,7 +87,7 @@ spells_order = spells_after (word_between symbol.Order (reserved_spells symbol.O
 
 pub spells_desc : Spells ends (codes " DESC") (word symbol.Desc ∷ [])
 unfolding reserved_word
-spells_desc = spells_weaker ends_stops (word_behind symbol.Desc (reserved_spells symbol.Desc refl refl refl (omega arith)))
+spells_desc = spells_weaker ends_stops (word_after symbol.Desc (reserved_spells symbol.Desc refl refl refl (omega arith)))
 
 pub spells_and : Spells any (codes " AND ") (word symbol.And ∷ [])
 unfolding reserved_word

@@ -30,9 +30,9 @@ joined sep [] = []
 joined sep (piece ∷ []) = piece
 joined sep (piece ∷ next ∷ more) = piece ++ (sep ++ joined sep (next ∷ more))
 
--- a piece behind so many others
-abbrev pub behind : List ℕ → ℕ → List ℕ → List ℕ
-behind sep n piece = if n == 0 then piece else sep ++ piece
+-- a piece after so many others
+abbrev pub separated : List ℕ → ℕ → List ℕ → List ℕ
+separated sep n piece = if n == 0 then piece else sep ++ piece
 
 abbrev pub canon_alias : Option PlacedName → List ℕ
 canon_alias None = []
@@ -147,7 +147,7 @@ canon_sources (first ∷ more) = canon_source first ++ flat_map (λ s. canon_fur
 unfoldable pub canon_key : OrderItem → List ℕ
 canon_key key = canon_expr key.expr ++ (if key.descending then codes " DESC" else [])
 
--- a part behind its words, where there is one
+-- a part after its words, where there is one
 abbrev pub canon_condition : List ℕ → Option Test → List ℕ
 canon_condition words None = []
 canon_condition words (Some cond) = words ++ canon_test cond

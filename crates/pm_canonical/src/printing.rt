@@ -1,6 +1,6 @@
 ghost use Rattle.std.specs.Prelude.{◌≡◌, ◌++◌, OnOk, IfOk, string_bytes, map, codes, [], if◌then◌else◌, ◌==◌};
 ghost use Rattle.std.specs.List.{flat_map};
-ghost use Rattle.pm_canonical.specs.Canon.{canon_literal, canon_atom, canon_given, canon_item, canon_items, canon_source, join_words, canon_further, canon_sources, canon_condition, canon_list, canon, canon_key, joined, behind, negation, canon_comparison, canon_test, text_of, member_of, separator, is_wrapped};
+ghost use Rattle.pm_canonical.specs.Canon.{canon_literal, canon_atom, canon_given, canon_item, canon_items, canon_source, join_words, canon_further, canon_sources, canon_condition, canon_list, canon, canon_key, joined, separated, negation, canon_comparison, canon_test, text_of, member_of, separator, is_wrapped};
 
 use crate::numerals::put_number;
 use crate::words::{comparison_word, put_column, put_expr};
@@ -125,9 +125,9 @@ impl Canon for OrderItem {
     }
 }
 
-// An entry behind so many others.
+// An entry after so many others.
 fn put_entry<T: Canon>(out: &mut String, i: usize, entry: &T) -> Result<(), AllocError>
-    ensures { OnOk result (string_bytes out.new ≡ string_bytes out.old ++ behind (codes ", ") i (T.canon entry.now)) }
+    ensures { OnOk result (string_bytes out.new ≡ string_bytes out.old ++ separated (codes ", ") i (T.canon entry.now)) }
 {
     if i > 0 {
         out.push_str(", ")?;
@@ -145,7 +145,7 @@ fn put_list<T: Canon>(out: &mut String, list: &[T]) -> Result<(), AllocError>
     Ok(())
 }
 
-// What stands before a member behind so many others.
+// What stands before a member after so many others.
 fn put_separator(out: &mut String, in_or: bool, i: usize) -> Result<(), AllocError>
     ensures { OnOk result (string_bytes out.new ≡ string_bytes out.old ++ (if i == 0 then [] else separator in_or)) }
 {
@@ -343,7 +343,7 @@ fn put_sources(out: &mut String, sources: &[Source]) -> Result<(), AllocError>
     }
 }
 
-// A condition behind its word, where there is one.
+// A condition after its word, where there is one.
 fn put_condition(out: &mut String, words: &str, cond: &Option<Test>) -> Result<(), AllocError>
     ensures { OnOk result (string_bytes out.new ≡ string_bytes out.old ++ canon_condition words.now cond.now) }
 {
@@ -356,7 +356,7 @@ fn put_condition(out: &mut String, words: &str, cond: &Option<Test>) -> Result<(
     }
 }
 
-// A list behind its words, where it is not empty.
+// A list after its words, where it is not empty.
 fn put_part<T: Canon>(out: &mut String, words: &str, list: &[T]) -> Result<(), AllocError>
     ensures { OnOk result (string_bytes out.new ≡ string_bytes out.old ++ canon_list words.now T.canon list.now) }
 {

@@ -7,7 +7,7 @@ use Rattle.pm_grammar.proofs.Phrases.{Phrase, Next, Avoids, Able, Began, Law, Re
 use Rattle.pm_grammar.proofs.Readers.{Then, Or, Same, same_law, first_law, second_law, same_reader, then_law, then_reader, then_began, first_began, pure_reader, map_reader, not_seen}
 use Rattle.pm_grammar.proofs.Lists.{Further, More, Entry, further_able, entry_began, ThenSome, some_law}
 use Rattle.pm_grammar.proofs.Lists.{Some as SomeOf}
-use Rattle.pm_grammar.proofs.Furthers.{behind_reader, optional_reader, seen_head, past, not_past, no_longer}
+use Rattle.pm_grammar.proofs.Furthers.{after_reader, optional_reader, seen_head, past, not_past, no_longer}
 use Rattle.pm_grammar.proofs.Firsts.{FirstOf, BeginsWith, bars, seen_law}
 use Rattle.pm_grammar.proofs.Sets.{none_other, widened}
 use Rattle.pm_grammar.proofs.Helpers.{read_same}
@@ -100,7 +100,7 @@ clause_tail {A} {B} S sep word t₀ e₀ F K Q d p q clause none some apart = re
   After = Or none.After (Then (λ _ _. Is word) (λ _. Then K (λ a. Q (Some a))));
   same = record { to = clause_to sep word K Q none.After none.value none.same; from = clause_from sep word K Q none.After none.value none.same };
   after = λ us. if sees word us then (p (drop 1 us) >>= λ a. q (Some a.0, a.1)) else none.after us;
-  reads = behind_reader S word t₀ e₀ (Then K (λ a. Q (Some a))) none.After d (λ us. p us >>= λ a. q (Some a.0, a.1)) none.after
+  reads = after_reader S word t₀ e₀ (Then K (λ a. Q (Some a))) none.After d (λ us. p us >>= λ a. q (Some a.0, a.1)) none.after
       (then_reader S Nothing K (λ a. Q (Some a)) d p (λ a. q (Some a.0, a.1)) clause some (λ a d' g next avoids t ts s h. s)) none.reads
       (bars S none.After F word none.begins (λ t e f. apart t f e));
   begins = λ d g next w h. elim h [ inl other ↦ widened F _ (λ t f. inl f) w (none.begins d g next w other) | inr this ↦ seen_first (λ _. Then K (λ a. Q (Some a)) d g next) w this ];
@@ -246,15 +246,15 @@ module _ {A B : Type 0} (S SP : Token → Type 0) (sep starts : Token → Bool) 
       let r : A × List Token → Read B = λ a. more_while sep starts p limit m (before ++ a.0 ∷ []) a.1 >>= q in
       let after : Read B = if sees starts us then (limited_at (nat_le limit (length before)) p us >>= r) else tail.after us in
       let split = listed_same limit sep P Q before t tail.After tail.value tail.same in
-      let Behind = Or tail.After (Entered limit sep P Q before t) in
+      let After = Or tail.After (Entered limit sep P Q before t) in
       rw (while_read m before t us tail.after tail.value (tail.read (t ∷ us)))
       (elim (sep t) as (λ b. sep t ≡ b → Law S (Listed limit sep P Q before) d (t ∷ us) (if b then after else Ok (tail.value, t ∷ us))) [
         | true ↦ λ e. same_law S _ _ d (t ∷ us) after split
-            (second_law S (Only tail.value) (Then (Sep sep) (λ _. Behind)) d (t ∷ us) after (λ d' g next w avoids heads h. seen_head S sep (t ∷ us) w next tail.value e k.ends avoids heads h)
-            (seen_law S sep t us e Behind d after (first_began tail.After (Entered limit sep P Q before t) tail.reads.able)
+            (second_law S (Only tail.value) (Then (Sep sep) (λ _. After)) d (t ∷ us) after (λ d' g next w avoids heads h. seen_head S sep (t ∷ us) w next tail.value e k.ends avoids heads h)
+            (seen_law S sep t us e After d after (first_began tail.After (Entered limit sep P Q before t) tail.reads.able)
             (after_law before t us r (λ a rest shorter. listed_law m (before ++ a ∷ []) rest (omega arith)))))
         | false ↦ λ e. same_law S _ _ d (t ∷ us) (Ok (tail.value, t ∷ us)) split
-            (first_law S (Only tail.value) (Then (Sep sep) (λ _. Behind)) d (t ∷ us) (Ok (tail.value, t ∷ us)) (λ d' g next w avoids heads h. not_seen sep (t ∷ us) w _ e heads h) ((pure_reader S d tail.value).law (t ∷ us)))
+            (first_law S (Only tail.value) (Then (Sep sep) (λ _. After)) d (t ∷ us) (Ok (tail.value, t ∷ us)) (λ d' g next w avoids heads h. not_seen sep (t ∷ us) w _ e heads h) ((pure_reader S d tail.value).law (t ∷ us)))
       ] refl)
 
   -- the list from its first entry, which may have a form of its own

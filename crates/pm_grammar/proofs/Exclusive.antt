@@ -29,12 +29,12 @@ many_stands P d tokens p x = record {
   none = λ past t others w value is shut h. let same : t ≡ x.token = cc is in x.none past w value (rw same at shut) (rw same at h);
 }
 
--- the second cut of a list lies behind the first
+-- the second cut of a list lies after the first
 abbrev Later : List Token → List Token → List Token → List Token → Type 0
 Later front rest front' rest' = (t : Token) × (mid : List Token) × (front' ≡ front ++ t ∷ mid) × (rest ≡ t ∷ (mid ++ rest'))
 
-behind : (t : Token) (front rest front' rest' : List Token) → Later front rest front' rest' → Later (t ∷ front) rest (t ∷ front') rest'
-behind t front rest front' rest' l = (l.0, l.1, rw l.2 refl, l.3)
+after : (t : Token) (front rest front' rest' : List Token) → Later front rest front' rest' → Later (t ∷ front) rest (t ∷ front') rest'
+after t front rest front' rest' l = (l.0, l.1, rw l.2 refl, l.3)
 
 cuts : (front rest front' rest' : List Token) → front ++ rest ≡ front' ++ rest' → (Later front rest front' rest' ⊎ Later front' rest' front rest) ⊎ ((front ≡ front') × (rest ≡ rest'))
 cuts [] rest [] rest' e = inr (refl, e)
@@ -44,8 +44,8 @@ cuts (t ∷ front) rest (u ∷ front') rest' e =
     let first : t ≡ u = cc e in
     let others : front ++ rest ≡ front' ++ rest' = cc e in
     rw first (elim (cuts front rest front' rest' others) [
-      | inl (inl l) ↦ inl (inl (behind u front rest front' rest' l))
-      | inl (inr l) ↦ inl (inr (behind u front' rest' front rest l))
+      | inl (inl l) ↦ inl (inl (after u front rest front' rest' l))
+      | inl (inr l) ↦ inl (inr (after u front' rest' front rest l))
       | inr same ↦ inr (rw same.0 refl, same.1)
     ])
 

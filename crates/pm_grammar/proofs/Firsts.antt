@@ -7,7 +7,7 @@ use Rattle.pm_lexer.specs.declared.symbol.Symbol.{Symbol}
 use Rattle.pm_lexer.specs.Symbol.{symbol_of, same_symbol, is}
 use Rattle.pm_grammar.specs.Language.{Gate, Is}
 use Rattle.pm_grammar.specs.Reading.{sees, token_at}
-use Rattle.pm_grammar.proofs.Phrases.{Phrase, Next, Able, NotOther, open_behind}
+use Rattle.pm_grammar.proofs.Phrases.{Phrase, Next, Able, NotOther, open_after}
 use Rattle.pm_grammar.proofs.Readers.{Then, then_began, token_able, not_seen}
 use Rattle.pm_grammar.proofs.Lists.{Peek}
 pub use Rattle.pm_grammar.proofs.Furthers.{seen_law}
@@ -35,8 +35,8 @@ bars S P F test begins none [] e d g next w avoids heads h = absurd (let bad : f
 bars S P F test begins none (t ∷ ts) e d g next [] avoids heads h = heads
 bars S P F test begins none (t ∷ ts) e d g next (u ∷ us) avoids heads h = none u (rw (sym heads) at e) (begins d g next (u ∷ us) h)
 
--- what the first token of a phrase says, where the phrase is a token and what stands behind it
+-- what the first token of a phrase says, where the phrase is a token and what stands after it
 pub first_peek : {A : Type 0} (S : Token → Type 0) (test : Token → Bool) (t₀ : Token) → test t₀ ≡ true → (Q : Token → Phrase A) (d : ℕ) → ((t : Token) → Able (Q t) d) → Peek S (Then (λ _ _. Is test) Q) d (token_at test)
 first_peek S test t₀ e₀ Q d able =
     token_peek S (Then (λ _ _. Is test) Q) test d (λ ts e d' g next w avoids heads h. not_seen test ts w _ e heads h) (then_began able (token_able test t₀ e₀ d))
-    (λ t e. record { more = (able t).more; value = (able t).value; ends = λ d' g next v le o h. (e, (able t).ends d' g next v le (open_behind g (t ∷ []) _ o) h) })
+    (λ t e. record { more = (able t).more; value = (able t).value; ends = λ d' g next v le o h. (e, (able t).ends d' g next v le (open_after g (t ∷ []) _ o) h) })

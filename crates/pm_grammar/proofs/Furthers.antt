@@ -1,4 +1,4 @@
--- The reader of further entries behind separators, and of a list.
+-- The reader of further entries after separators, and of a list.
 use Rattle.std.proofs.Common.{◌≡◌, ◌≤◌, ◌<◌, ℕ, zero, suc, Bool, true, false, List, [], ◌∷◌, ◌++◌, drop, length, Ok, Err, refl, ap, arith, length-append, nat_le, if◌then◌else◌}
 use Rattle.std.proofs.lemmas.Bool.Decides.{nat_tests}
 use Rattle.pm_lexer.specs.declared.token.Token.{Token}
@@ -54,7 +54,7 @@ past limit n e = grind (arith, nat_tests)
 pub not_past : (limit n : ℕ) → nat_le limit n ≡ false → n < limit
 not_past limit n e = grind (arith, nat_tests)
 
--- what is refused is refused, whatever would be read behind it
+-- what is refused is refused, whatever would be read after it
 abbrev pub Refused : {A : Type 0} → Read Token → Stop → Read A
 Refused r stop = r >>= λ _. Err stop
 
@@ -70,7 +70,7 @@ module _ {A S : Type 0} {T SP : Token → Type 0} {Sep : Phrase S} {P : S → Ph
       same_law T _ _ d ts (Ok (before, ts)) (further_same limit Sep P before)
       (first_law T (None before) (ThenSome Sep (Entry limit Sep P before)) d ts (Ok (before, ts)) (λ d' g next w avoids heads h. k.no_sep ts e d' g _ w heads h.1) ((pure_reader T d before).law ts))
 
-  -- a separator, and what is read behind it
+  -- a separator, and what is read after it
   goes_law : (before : List A) (ts : List Token) → sees starts ts ≡ true → (q : S × List Token → Read (List A)) → ((s : S) (r : List Token) → sep ts ≡ Ok (s, r) → Law T (Some (Entry limit Sep P before) s) d r (q (s, r)))
       → Law T (Further limit Sep P before) d ts (sep ts >>= q)
   goes_law before ts e q law =
@@ -162,24 +162,24 @@ choice_reader {A} S P Q test d p q first second other none = record {
   able = first_began P Q first.able;
 }
 
--- behind a token that was seen
+-- after a token that was seen
 pub seen_law : {A : Type 0} (S : Token → Type 0) (test : Token → Bool) (t : Token) (us : List Token) → test t ≡ true → (P : Phrase A) (d : ℕ) (r : Read A) → Able P d → Law S P d us r → Law S (Then (λ _ _. Is test) (λ _. P)) d (t ∷ us) r
 seen_law S test t us e P d r able l =
     then_law S Nothing (λ _ _. Is test) (λ _. P) d (t ∷ us) (Ok (t, us)) (λ _. r)
     (record { front = t ∷ []; is = refl; took = record { keeps = λ d' g next w le h. (e, h); only = λ d' g next w avoids heads h. h.1 } })
     (λ a rest i. let same : us ≡ rest = rest_same rest a i in rw same at l) (λ _. able) (λ a d' g next avoids u ts s h. s)
   where
-    behind : Read Token → List Token
-    behind (Ok x) = x.1
-    behind (Err e) = []
+    after : Read Token → List Token
+    after (Ok x) = x.1
+    after (Err e) = []
 
     rest_same : (rest : List Token) (a : Token) → (let x : Read Token = Ok (t, us) in x) ≡ Ok (a, rest) → us ≡ rest
-    rest_same rest a i = ap behind i
+    rest_same rest a i = ap after i
 
--- a phrase behind this token, or else another
-pub behind_reader : {A : Type 0} (S : Token → Type 0) (test : Token → Bool) (t₀ : Token) → test t₀ ≡ true → (P Q : Phrase A) (d : ℕ) (p q : List Token → Read A) → Reader S P d p → Reader S Q d q
+-- a phrase after this token, or else another
+pub after_reader : {A : Type 0} (S : Token → Type 0) (test : Token → Bool) (t₀ : Token) → test t₀ ≡ true → (P Q : Phrase A) (d : ℕ) (p q : List Token → Read A) → Reader S P d p → Reader S Q d q
     → ((ts : List Token) → sees test ts ≡ true → NotOther S Q ts) → Reader S (Or Q (Then (λ _ _. Is test) (λ _. P))) d (λ ts. if sees test ts then p (drop 1 ts) else q ts)
-behind_reader {A} S test t₀ e₀ P Q d p q first second other = record {
+after_reader {A} S test t₀ e₀ P Q d p q first second other = record {
   law = λ ts. elim (sees test ts) as (λ b. sees test ts ≡ b → Law S (Or Q (Then (λ _ _. Is test) (λ _. P))) d ts (if b then p (drop 1 ts) else q ts)) [
     | true ↦ λ e. second_law S Q (Then (λ _ _. Is test) (λ _. P)) d ts (p (drop 1 ts)) (other ts e) (seen ts e)
     | false ↦ λ e. first_law S Q (Then (λ _ _. Is test) (λ _. P)) d ts (q ts) (λ d' g next w avoids heads h. not_seen test ts w _ e heads h) (second.law ts)
@@ -191,8 +191,8 @@ behind_reader {A} S test t₀ e₀ P Q d p q first second other = record {
     seen [] e = absurd (let bad : false ≡ true = e in cc)
     seen (t ∷ us) e = seen_law S test t us e P d (p us) first.able (first.law us)
 
--- a phrase behind this token, or nothing and this value
+-- a phrase after this token, or nothing and this value
 pub optional_reader : {A : Type 0} (S : Token → Type 0) (test : Token → Bool) (t₀ : Token) → test t₀ ≡ true → (P : Phrase A) (a : A) (d : ℕ) (p : List Token → Read A) → Reader S P d p → ((t : Token) → test t ≡ true → S t)
     → Reader S (Or (λ _ _ next. next a) (Then (λ _ _. Is test) (λ _. P))) d (λ ts. if sees test ts then p (drop 1 ts) else Ok (a, ts))
 optional_reader S test t₀ e₀ P a d p first inS =
-    behind_reader S test t₀ e₀ P (λ _ _ next. next a) d p (λ ts. Ok (a, ts)) first (pure_reader S d a) (λ ts e d' g next w avoids heads h. seen_head S test ts w next a e inS avoids heads h)
+    after_reader S test t₀ e₀ P (λ _ _ next. next a) d p (λ ts. Ok (a, ts)) first (pure_reader S d a) (λ ts e d' g next w avoids heads h. seen_head S test ts w next a e inS avoids heads h)

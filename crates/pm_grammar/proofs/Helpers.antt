@@ -3,7 +3,7 @@ use Rattle.std.proofs.Common.{◌≡◌, ◌+◌, ℕ, Bool, true, false, List, 
 use Rattle.pm_lexer.specs.declared.token.Token.{Token}
 use Rattle.pm_grammar.specs.Language.{Is, IsOptional}
 use Rattle.pm_grammar.specs.Reading.{expected, Read, ◌>>=◌, sees, token_at, optional_at}
-use Rattle.pm_grammar.proofs.Phrases.{Phrase, Reader, Able, Began, open_behind, fault_moved, moved, weaker_began}
+use Rattle.pm_grammar.proofs.Phrases.{Phrase, Reader, Able, Began, open_after, fault_moved, moved, weaker_began}
 use Rattle.pm_grammar.proofs.Readers.{Then, Clear, Or, Same, pure_reader, then_began, same_reader, same_began, token_reader}
 use Rattle.pm_grammar.proofs.Lists.{Peek}
 use Rattle.pm_grammar.proofs.Furthers.{choice_reader}
@@ -36,12 +36,12 @@ maybe_reader S test t₀ e₀ d inS =
     (none_stops S test None inS)
     (none_other S _ (λ t. test t ≡ true) test (λ d g next w h. begins_is test (λ t. next (Some t)) w h) (λ t e. e))))
 
--- a phrase begins with a token and what may stand behind it
+-- a phrase begins with a token and what may stand after it
 pub token_began : {B : Type 0} {Q : Token → Phrase B} (test : Token → Bool) (t : Token) → test t ≡ true → (d : ℕ) → Able (Q t) d → Began (Then (λ _ _. Is test) Q) d [] (t ∷ [])
 token_began {B} {Q} test t e d q = record {
   more = q.more;
   value = q.value;
-  ends = λ d' g next v le o h. (e, q.ends d' g next v le (open_behind g (t ∷ []) (q.more ++ v) o) h);
+  ends = λ d' g next v le o h. (e, q.ends d' g next v le (open_after g (t ∷ []) (q.more ++ v) o) h);
 }
 
 -- what the first token of a phrase and more says

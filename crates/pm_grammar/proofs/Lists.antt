@@ -12,14 +12,14 @@ pub record Peek {A : Type 0} (S : Token → Type 0) (P : Phrase A) (d : ℕ) (pe
   pub stops : (ts : List Token) (e : Stop) → peek ts ≡ Err e → Fault S P d [] ts e
   pub goes : (ts : List Token) (x : Token × List Token) → peek ts ≡ Ok x → GoesOn P [] ts d
 
--- further entries behind separators
+-- further entries after separators
 abbrev pub Further : {A S : Type 0} → ℕ → Phrase S → (S → Phrase A) → List A → Phrase (List A)
 Further limit Sep P before d g = IsFurther g limit (Sep d g) (λ s. P s d g) before
 
 abbrev pub More : {A S : Type 0} → ℕ → Phrase S → (S → Phrase A) → List A → ℕ → A → Phrase (List A)
 More limit Sep P before n a d g = IsMore g limit (Sep d g) (λ s. P s d g) n (before ++ a ∷ [])
 
--- an entry behind so many, and so many more
+-- an entry after so many, and so many more
 abbrev pub Entry : {A S : Type 0} → ℕ → Phrase S → (S → Phrase A) → List A → ℕ → S → Phrase (List A)
 Entry limit Sep P before n s d g next = Within g limit (length before) (P s d g (λ a. More limit Sep P before n a d g next))
 

@@ -34,8 +34,8 @@ pub record Took {A : Type 0} (S : Token → Type 0) (P : Phrase A) (d : ℕ) (fr
 abbrev pub Open : Gate → List Token → Type 0
 Open g rest = (ts : List Token) → length ts ≤ length rest → g ts
 
-pub open_behind : (g : Gate) (front rest : List Token) → Open g (front ++ rest) → Open g rest
-open_behind g front rest o ts h = o ts (omega (arith, length-append front rest))
+pub open_after : (g : Gate) (front rest : List Token) → Open g (front ++ rest) → Open g rest
+open_after g front rest o ts h = o ts (omega (arith, length-append front rest))
 
 -- these two begin a phrase, of which the entries past their limit may begin from the second on
 pub record Began {A : Type 0} (P : Phrase A) (d : ℕ) (front tail : List Token) : Type 1 where

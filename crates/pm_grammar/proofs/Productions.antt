@@ -11,7 +11,7 @@ use Rattle.pm_grammar.proofs.Phrases.{Phrase, Next, Avoids, Reader, NotOther, Be
 use Rattle.pm_grammar.proofs.Readers.{Then, Or, Same, pure_reader, then_reader, map_reader, token_reader, same_reader, wider_reader}
 use Rattle.pm_grammar.proofs.Lists.{Peek}
 use Rattle.pm_grammar.proofs.Firsts.{FirstOf, BeginsWith}
-use Rattle.pm_grammar.proofs.Furthers.{choice_reader, behind_reader, list_reader, token_peek}
+use Rattle.pm_grammar.proofs.Furthers.{choice_reader, after_reader, list_reader, token_peek}
 use Rattle.pm_grammar.proofs.Helpers.{maybe_reader}
 use Rattle.pm_grammar.proofs.Sets.{AnyOf, member, subset, separate, apart, within, disjoint, widened, begins_is}
 use Rattle.pm_grammar.proofs.Symbols.{sample, sample_is}
@@ -147,7 +147,7 @@ pub after : {A : Type 0} {e e' : Bool} {firsts second ends : List Symbol} {P Q :
 after {A} {e} {e'} {firsts} {second} {ends} {P} {Q} {d} {p} {q} s e₀ first other sep imp = record {
   reads = same_reader (AnyOf ends) (Or Q (Then (λ _ _. Is (is s)) (λ _. P))) _ d _
       (record { to = λ d g next ts h. elim h [ inl a ↦ inr a | inr b ↦ inl b ]; from = λ d g next ts h. elim h [ inl a ↦ inr a | inr b ↦ inl b ] })
-      (behind_reader (AnyOf ends) (is s) (sample s) (sample_is s e₀) P Q d p q first.reads other.reads (bars e second ends (is s) (s ∷ []) other.leads (λ t e. inl e) sep imp));
+      (after_reader (AnyOf ends) (is s) (sample s) (sample_is s e₀) P Q d p q first.reads other.reads (bars e second ends (is s) (s ∷ []) other.leads (λ t e. inl e) sep imp));
   leads = λ d g next w h. elim h [
     | inl a ↦ inl (widened (λ t. is s t ≡ true) (AnyOf (s ∷ second)) (λ t e. inl e) w (begins_is (is s) (λ _. P d g next) w a))
     | inr b ↦ elim (other.leads d g next w b) [ inl f ↦ inl (widened (AnyOf second) (AnyOf (s ∷ second)) (λ t h. inr h) w f) | inr n ↦ inr n ]

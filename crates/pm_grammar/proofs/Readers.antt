@@ -3,7 +3,7 @@ use Rattle.std.proofs.Common.{◌≡◌, ◌≤◌, ◌+◌, ◌⊎◌, ℕ, zer
 use Rattle.pm_lexer.specs.declared.token.Token.{Token}
 use Rattle.pm_grammar.specs.Language.{Gate, Is}
 use Rattle.pm_grammar.specs.Reading.{expected, Read, ◌>>=◌, place_of, sees, token_at}
-use Rattle.pm_grammar.proofs.Phrases.{Phrase, Next, Avoids, Heads, heads_under, Took, Able, Began, Cause, no_phrase, deeper, longer, Where, Fault, Taken, Law, Reader, Nothing, NotOther, Open, open_behind, weaker_began, fault_moved}
+use Rattle.pm_grammar.proofs.Phrases.{Phrase, Next, Avoids, Heads, heads_under, Took, Able, Began, Cause, no_phrase, deeper, longer, Where, Fault, Taken, Law, Reader, Nothing, NotOther, Open, open_after, weaker_began, fault_moved}
 
 -- nothing, with a value
 pub pure_reader : {A : Type 0} (S : Token → Type 0) (d : ℕ) (a : A) → Reader S (λ _ _ next. next a) d (λ r. Ok (a, r))
@@ -117,7 +117,7 @@ some_began {A} {B} {I} {P} R {d} {front} {tail} q v = record {
   value = (q v.value).value;
   ends = λ d' g next w le o h.
       let o' : Open g (tail ++ (v.more ++ ((q v.value).more ++ w))) = rw append_assoc at o in
-      let r = (q v.value).ends d' g next w le (open_behind g v.more _ (open_behind g tail _ o')) h in
+      let r = (q v.value).ends d' g next w le (open_after g v.more _ (open_after g tail _ o')) h in
       (r.0, rw append_assoc (v.ends d' g (λ a. R r.0 a d' g next) ((q v.value).more ++ w) le o' r.1));
 }
 
@@ -172,7 +172,7 @@ chosen P Q = record { to = λ d g next ts h. h.1; from = λ d g next ts h. (tt, 
 pub then_began : {A B : Type 0} {P : Phrase A} {Q : A → Phrase B} {d : ℕ} {front tail : List Token} → ((a : A) → Able (Q a) d) → Began P d front tail → Began (Then P Q) d front tail
 then_began {A} {B} {P} {Q} {d} {front} {tail} q v = same_began _ (Then P Q) (chosen P Q) (some_began {I = Unit {0}} (λ _. Q) (λ a. some_able Q a d (q a)) v)
 
--- a reader behind a reader
+-- a reader after a reader
 pub then_law : {A B : Type 0} (S SP : Token → Type 0) (P : Phrase A) (Q : A → Phrase B) (d : ℕ) (ts : List Token) (p : Read A) (q : A × List Token → Read B) → Law SP P d ts p
     → ((a : A) (r : List Token) → p ≡ Ok (a, r) → Law S (Q a) d r (q (a, r))) → ((a : A) → Able (Q a) d) → Clear SP S Q → Law S (Then P Q) d ts (p >>= q)
 then_law S SP P Q d ts p q lp lq able clear =

@@ -19,7 +19,7 @@ gate_of anywhere = always
 abbrev pub IsWhole : {A : Type 0} → Phrase A → ℕ → Past → List Token → A → Type 0
 IsWhole P d past tokens a = P d (gate_of past) (λ found rest. (found ≡ a) × (rest ≡ [])) tokens
 
--- a phrase begins with `front` and `tail`, and its entries past a limit begin with `tail` or behind it
+-- a phrase begins with `front` and `tail`, and its entries past a limit begin with `tail` or after it
 abbrev pub Begins : {A : Type 0} → Phrase A → ℕ → List Token → List Token → Type 0
 Begins {A} P d front tail = (more : List Token) × (value : A) × IsWhole P d (within (tail ++ more)) (front ++ (tail ++ more)) value
 

@@ -1,5 +1,5 @@
 -- Languages of token lists. A language says of a list of tokens that it begins with a phrase of it, and that the phrase's value and
--- the tokens behind it are as asked.
+-- the tokens after it are as asked.
 use Rattle.std.specs.Prelude.{◌≡◌, ◌≤◌, ◌⊎◌, ℕ, zero, suc, Bool, true, Option, Some, None, List, [], ◌∷◌, ◌++◌, length}
 use Rattle.pm_lexer.specs.declared.token.Token.{Token}
 
@@ -28,11 +28,11 @@ Phrase A = ℕ → Gate → Lang A
 abbrev pub only_at : List Token → Gate
 only_at rest ts = ts ≡ rest
 
--- what follows is an entry that stands behind so many
+-- what follows is an entry that stands after so many
 abbrev pub Within : Gate → ℕ → ℕ → (List Token → Type 0) → List Token → Type 0
 Within gate limit n entry ts = (limit ≤ n → gate ts) × entry ts
 
--- n further entries, each behind a separator
+-- n further entries, each after a separator
 unfoldable pub IsMore : {A S : Type 0} → Gate → ℕ → Lang S → (S → Lang A) → ℕ → List A → Lang (List A)
 IsMore gate limit Sep P zero before next = next before
 IsMore gate limit Sep P (suc n) before next = Sep (λ s. Within gate limit (length before) (P s (λ a. IsMore gate limit Sep P n (before ++ a ∷ []) next)))

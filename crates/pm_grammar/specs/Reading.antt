@@ -10,7 +10,7 @@ pub data Stop : Type 0 where
   too_deep : ℕ → Stop
   too_many : ℕ → Stop
 
--- a value and the tokens behind its phrase
+-- a value and the tokens after its phrase
 abbrev pub Read : Type 0 → Type 0
 Read A = Result (A × List Token) Stop
 
@@ -41,7 +41,7 @@ entry_at past peek p ts = if past then (peek ts >>= λ _. Err (too_many (place_o
 abbrev pub limited_at : {A : Type 0} → Bool → (List Token → Read A) → List Token → Read A
 limited_at past p ts = if past then Err (too_many (place_of ts)) else p ts
 
--- further entries behind separators, in at most so many turns
+-- further entries after separators, in at most so many turns
 unfoldable pub more_at : {A S : Type 0} → (Token → Bool) → (List Token → Read S) → (List Token → Read Token) → (S → List Token → Read A) → ℕ → ℕ → List A → List Token → Read (List A)
 more_at starts sep peek p limit zero before ts = Ok (before, ts)
 more_at starts sep peek p limit (suc n) before ts =

@@ -4,7 +4,7 @@ ghost use Rattle.pm_grammar.specs.Reading.{token_at, entry_at, limited_at, more_
 ghost use Rattle.pm_grammar.specs.Outcome.{Gives};
 
 use crate::fault::SynBad;
-use crate::terminal::{Terminal, after, place, sees};
+use crate::terminal::{Terminal, place, sees, strip_terminal};
 use pm_lexer::Token;
 use pm_values::Items;
 use std::alloc::Global;
@@ -60,12 +60,12 @@ pub fn further<E: Entry, T: Terminal>(
     ensures { Gives (λ x. (x.0, x.1.now)) result (more_at (T.accepts separator) (token_at (T.accepts separator)) E.peeks (λ _. E.reads) limit (length rest.entry.now) list rest.entry.now) }
 {
     'entries: for _ in 0..rest.len() {
-        let Some(next) = after(separator, rest) else {
+        let Some(next) = strip_terminal(separator, rest) else {
             return Ok((list, rest));
         };
-        let (entry, after) = next_entry::<E>(alloc, list.len() >= limit, next)?;
+        let (entry, remaining) = next_entry::<E>(alloc, list.len() >= limit, next)?;
         list.push(entry)?;
-        rest = after;
+        rest = remaining;
     }
     Ok((list, rest))
 }
@@ -113,15 +113,15 @@ pub fn further_while<E: Entry, T: Terminal, U: Terminal>(
     ensures { Gives (λ x. (x.0, x.1.now)) result (more_while (T.accepts separator) (U.accepts first) E.reads limit (length rest.entry.now) list rest.entry.now) }
 {
     'entries: for _ in 0..rest.len() {
-        let Some(next) = after(separator, rest) else {
+        let Some(next) = strip_terminal(separator, rest) else {
             return Ok((list, rest));
         };
         if !sees(first, next) {
             return Ok((list, rest));
         }
-        let (entry, after) = limited::<E>(alloc, list.len() >= limit, next)?;
+        let (entry, remaining) = limited::<E>(alloc, list.len() >= limit, next)?;
         list.push(entry)?;
-        rest = after;
+        rest = remaining;
     }
     Ok((list, rest))
 }
@@ -202,9 +202,9 @@ pub fn further_series<E: Series>(
             return Ok((list, rest));
         }
         let (separator, next) = E::separate(rest)?;
-        let (entry, after) = next_of_series::<E>(alloc, list.len() >= limit, separator, next)?;
+        let (entry, remaining) = next_of_series::<E>(alloc, list.len() >= limit, separator, next)?;
         list.push(entry)?;
-        rest = after;
+        rest = remaining;
     }
     Ok((list, rest))
 }

@@ -10,4 +10,4 @@ mod terminal;
 pub use entries::{Entry, Series, further, further_series, further_while, list};
 pub use fault::SynBad;
 pub use names::{PlacedName, PlacedNames, name, placed};
-pub use terminal::{Terminal, after, optional, place, sees, token};
+pub use terminal::{Terminal, optional, place, sees, strip_terminal, token};

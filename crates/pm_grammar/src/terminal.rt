@@ -52,7 +52,7 @@ pub fn sees<T: Terminal>(terminal: T, tokens: &[Token]) -> bool
 }
 
 /// What follows this terminal, if it comes next.
-pub fn after<T: Terminal>(terminal: T, tokens: &[Token]) -> Option<&[Token]>
+pub fn strip_terminal<T: Terminal>(terminal: T, tokens: &[Token]) -> Option<&[Token]>
     ensures { MatchOption result (sees (T.accepts terminal) tokens.now ≡ false) (λ rest. (sees (T.accepts terminal) tokens.now ≡ true) × (rest.now ≡ drop 1 tokens.now)) }
 {
     match tokens {

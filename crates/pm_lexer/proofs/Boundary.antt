@@ -19,9 +19,9 @@ use Rattle.pm_lexer.specs.declared.symbol.TheConstants.{SIGNS}
 use Rattle.pm_lexer.specs.Symbol.{spelling, reserved_word, canonical_sign, sign_of}
 use Rattle.pm_lexer.specs.Head.{name_at, number_at, named_at, closed_name_at, plain_at, quoted_at, closed_text_at, text_at, sign_at, head_of, IsCut, Cuts}
 
--- a cut behind an ASCII byte
-cut_behind : (text : List ℕ) (n : ℕ) → IsUtf8 text → n < length text → get_or text n 0 < 128 → IsCut text (n + 1)
-cut_behind text n u h a = record { some = omega arith; within = omega arith; boundary = IsCharBoundary-after_ascii text n u h a }
+-- a cut after an ASCII byte
+cut_after : (text : List ℕ) (n : ℕ) → IsUtf8 text → n < length text → get_or text n 0 < 128 → IsCut text (n + 1)
+cut_after text n u h a = record { some = omega arith; within = omega arith; boundary = IsCharBoundary-after_ascii text n u h a }
 
 pub choose : {A : Type 0} (P : A → Type 0) (b : Bool) (x y : A) → (b ≡ true → P x) → (b ≡ false → P y) → P (if b then x else y)
 choose P true x y f g = f refl
@@ -50,7 +50,7 @@ run_stops p (x ∷ xs) h =
 pub run_some : (p : ℕ → Bool) (x : ℕ) (xs : List ℕ) → p x ≡ true → 0 < prefix_len p (x ∷ xs)
 run_some p x xs e = rw e (omega arith)
 
--- a cut behind such a run, where only ASCII bytes pass
+-- a cut after such a run, where only ASCII bytes pass
 cut_run : (p : ℕ → Bool) → ((b : ℕ) → p b ≡ true → b < 128) → (text : List ℕ) → IsUtf8 text → 0 < prefix_len p text → IsCut text (prefix_len p text)
 cut_run p ascii text u h =
     let n = prefix_len p text in
@@ -58,7 +58,7 @@ cut_run p ascii text u h =
     let within = run_within p text in
     let small = ascii (get_or text (n - 1) 0) (run_passes p text (n - 1) last) in
     let same : n - 1 + 1 ≡ n = omega arith in
-    rw same at (cut_behind text (n - 1) u (omega arith) small)
+    rw same at (cut_after text (n - 1) u (omega arith) small)
 
 digit_ascii : (b : ℕ) → is_ascii_digit b ≡ true → b < 128
 digit_ascii b e = grind (arith, nat_tests)
@@ -106,7 +106,7 @@ decimals_within [] = omega arith
 decimals_within (b ∷ rest) =
     choose (λ n. n ≤ length (b ∷ rest)) (b == 46) (prefix_len is_ascii_digit rest) 0 (λ _. let h = run_within is_ascii_digit rest in omega arith) (λ _. omega arith)
 
--- the last digit behind a point
+-- the last digit after a point
 decimals_last : (text : List ℕ) → 0 < decimals text → is_ascii_digit (get_or text (decimals text) 0) ≡ true
 decimals_last [] h = absurd (omega arith)
 decimals_last (b ∷ rest) h =
@@ -144,7 +144,7 @@ number_cuts at text u h =
         let within = run_within is_ascii_digit text in
         let shorter = decimals_shorter rest some in
         let small = digit_ascii (get_or rest d 0) (decimals_last rest some) in
-        let cut = cut_behind text (w + d) u (omega (arith, length-drop w text)) (rw (get_or-drop w text d 0) at small) in
+        let cut = cut_after text (w + d) u (omega (arith, length-drop w text)) (rw (get_or-drop w text d 0) at small) in
         let same : w + d + 1 ≡ w + 1 + d = omega arith in
         rw same at cut
 
@@ -172,13 +172,13 @@ quotation_ends q (b ∷ c ∷ rest) n e =
     longer_some k n None h = absurd (cc h)
     longer_some k n (Some m) h = (m, refl, cc h)
 
--- behind an opening and a closing quote
+-- after an opening and a closing quote
 cut_quotes : (q b : ℕ) (rest : List ℕ) (n : ℕ) → q < 128 → IsUtf8 (b ∷ rest) → quotation q rest ≡ Some n → IsCut (b ∷ rest) (n + 2)
 cut_quotes q b rest n small u e =
     let (within, at) = quotation_ends q rest n e in
     let less : get_or (b ∷ rest) (1 + n) 0 < 128 = rw (one_past b rest n, at) small in
     let same : 1 + n + 1 ≡ n + 2 = omega arith in
-    rw same at (cut_behind (b ∷ rest) (1 + n) u (omega arith) less)
+    rw same at (cut_after (b ∷ rest) (1 + n) u (omega arith) less)
 
 text_cuts : (at b : ℕ) (rest : List ℕ) → IsUtf8 (b ∷ rest) → Cuts (b ∷ rest) (text_at at rest)
 text_cuts at b rest u =
@@ -239,7 +239,7 @@ cut_sign : (text : List ℕ) (n : ℕ) → IsUtf8 text → 0 < n → n ≤ lengt
 cut_sign text n u some within e =
     let small : get_or (take n text) (n - 1) 0 < 128 = sign_ascii (take n text) (n - 1) e in
     let last : n - 1 < n = omega arith in
-    let cut = cut_behind text (n - 1) u (omega arith) (rw (get_or-take n text (n - 1) 0 last) at small) in
+    let cut = cut_after text (n - 1) u (omega arith) (rw (get_or-take n text (n - 1) 0 last) at small) in
     let same : n - 1 + 1 ≡ n = omega arith in
     rw same at cut
   where
@@ -265,7 +265,7 @@ unfolding head_of
 head_cuts at [] u h = tt
 head_cuts at (b ∷ rest) u h =
     let text = b ∷ rest in
-    choose (Cuts text) (is_blank b) _ _ (λ e. cut_behind text 0 u (omega arith) (blank_ascii b e))
+    choose (Cuts text) (is_blank b) _ _ (λ e. cut_after text 0 u (omega arith) (blank_ascii b e))
     (λ blank. choose (Cuts text) (starts_with nat_eq text (codes "--")) _ _ (λ e. cut_line text u (run_some is_inline b rest (no_blank_inline b blank)))
     (λ _. choose (Cuts text) (is_letter b) _ _ (λ e. name_cuts at text u (run_some is_word b rest (letter_is_word b e)))
     (λ _. choose (Cuts text) (is_ascii_digit b) _ _ (λ e. number_cuts at text u (run_some is_ascii_digit b rest e))

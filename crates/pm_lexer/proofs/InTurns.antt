@@ -8,13 +8,13 @@ use Rattle.pm_lexer.specs.declared.fault.LexBad.{LexBad}
 use Rattle.pm_lexer.specs.declared.head.Head.{Head}
 use Rattle.pm_lexer.specs.declared.head.Head.TheVariants as head
 use Rattle.pm_lexer.specs.Head.{head_of, IsCut, Cuts}
-use Rattle.pm_lexer.specs.Tokens.{before, tokens_behind, tokens_of}
+use Rattle.pm_lexer.specs.Tokens.{before, tokens_after, tokens_of}
 use Rattle.pm_lexer.specs.Parts.{IsGap, gap, piece, InTurn, AreTokens}
 use Rattle.pm_lexer.proofs.Boundary.{head_cuts}
 use Rattle.pm_lexer.proofs.Forms.{IsHead, head_is}
 use Rattle.pm_lexer.proofs.Walk.{walk_gap, walk_piece, walk_fault}
 
--- the text behind its first n bytes ends where the text does
+-- the text after its first n bytes ends where the text does
 ends_same : (at n : ℕ) (text : List ℕ) → n ≤ length text → (at + n) + length (drop n text) ≡ at + length text
 ends_same at n text within = omega (arith, length-drop n text)
 
@@ -38,25 +38,25 @@ piece_first k at n text tokens within is more =
       ap (λ ts. token ∷ ts) (rw (ends_same at n text within) at more.2),
     )
 
--- what stands behind the head of a text
-abbrev Behind : ℕ → List ℕ → Type 0
-Behind at text = (n : ℕ) (tokens : List Token) → IsCut text n → tokens_behind 0 (at + n) (drop n text) ≡ Ok tokens → AreTokens (at + n) (drop n text) tokens
+-- what stands after the head of a text
+abbrev After : ℕ → List ℕ → Type 0
+After at text = (n : ℕ) (tokens : List Token) → IsCut text n → tokens_after 0 (at + n) (drop n text) ≡ Ok tokens → AreTokens (at + n) (drop n text) tokens
 
-of_piece : (k : TokenKind) (at n : ℕ) (text : List ℕ) (tokens : List Token) (r : Result (List Token) LexBad) → IsCut text n → IsHead text (Ok (head.Piece k n)) → Behind at text
-    → tokens_behind 0 (at + n) (drop n text) ≡ r → before (record { kind = k; slice = take n text; at = at }) r ≡ Ok tokens → AreTokens at text tokens
-of_piece k at n text tokens (Ok more) cut is behind r joined =
-    let same : record { kind = k; slice = take n text; at = at } ∷ more ≡ tokens = cc joined in rw (← same) (piece_first k at n text more cut.within is (behind n more cut r))
-of_piece k at n text tokens (Err bad) cut is behind r joined = absurd (cc joined)
+of_piece : (k : TokenKind) (at n : ℕ) (text : List ℕ) (tokens : List Token) (r : Result (List Token) LexBad) → IsCut text n → IsHead text (Ok (head.Piece k n)) → After at text
+    → tokens_after 0 (at + n) (drop n text) ≡ r → before (record { kind = k; slice = take n text; at = at }) r ≡ Ok tokens → AreTokens at text tokens
+of_piece k at n text tokens (Ok more) cut is after r joined =
+    let same : record { kind = k; slice = take n text; at = at } ∷ more ≡ tokens = cc joined in rw (← same) (piece_first k at n text more cut.within is (after n more cut r))
+of_piece k at n text tokens (Err bad) cut is after r joined = absurd (cc joined)
 
-by_head : (at : ℕ) (text : List ℕ) (tokens : List Token) (r : Result Head LexBad) → 0 < length text → tokens_behind 0 at text ≡ Ok tokens → Behind at text → head_of at text ≡ r → IsHead text r → Cuts text r
+by_head : (at : ℕ) (text : List ℕ) (tokens : List Token) (r : Result Head LexBad) → 0 < length text → tokens_after 0 at text ≡ Ok tokens → After at text → head_of at text ≡ r → IsHead text r → Cuts text r
     → AreTokens at text tokens
-by_head at text tokens (Ok (head.Gap n)) some e behind h is cut = gap_first at n text tokens cut.within is (behind n tokens cut (sym (walk_gap n at text cut.some cut.within h) ∙ e))
-by_head at text tokens (Ok (head.Piece k n)) some e behind h is cut =
-    of_piece k at n text tokens (tokens_behind 0 (at + n) (drop n text)) cut.0 is behind refl (sym (walk_piece k n at text cut.0.some cut.0.within h) ∙ e)
-by_head at text tokens (Err bad) some e behind h is cut = absurd (let fault = walk_fault at text bad some h in cc)
+by_head at text tokens (Ok (head.Gap n)) some e after h is cut = gap_first at n text tokens cut.within is (after n tokens cut (sym (walk_gap n at text cut.some cut.within h) ∙ e))
+by_head at text tokens (Ok (head.Piece k n)) some e after h is cut =
+    of_piece k at n text tokens (tokens_after 0 (at + n) (drop n text)) cut.0 is after refl (sym (walk_piece k n at text cut.0.some cut.0.within h) ∙ e)
+by_head at text tokens (Err bad) some e after h is cut = absurd (let fault = walk_fault at text bad some h in cc)
 
-fills : (m at : ℕ) (text : List ℕ) (tokens : List Token) → length text ≤ m → IsUtf8 text → tokens_behind 0 at text ≡ Ok tokens → AreTokens at text tokens
-unfolding tokens_behind
+fills : (m at : ℕ) (text : List ℕ) (tokens : List Token) → length text ≤ m → IsUtf8 text → tokens_after 0 at text ≡ Ok tokens → AreTokens at text tokens
+unfolding tokens_after
 fills m at [] tokens le u e = let same : at + 0 ≡ at = omega arith in ([], refl, rw same (cc e))
 fills zero at (b ∷ rest) tokens le u e = absurd (omega arith)
 fills (suc m) at (b ∷ rest) tokens le u e =

@@ -50,24 +50,24 @@ all_digits (b ∷ xs) e some = e
 pub number_longest : (text bytes after : List ℕ) → text ≡ bytes ++ after → IsNumber bytes → length bytes ≤ number_len text
 number_longest text bytes after e form = elim form [
   | inl digits ↦ let reach = run_longest is_ascii_digit bytes after (digits_all bytes digits).0 in rw (sym e) at (at_least (bytes ++ after) reach)
-  | inr parts ↦ let (whole, behind, is, front, back) = parts in rw (sym e) at (rw (sym is) at (with_point whole behind after (digits_all whole front).0 (digits_all behind back)))
+  | inr parts ↦ let (whole, fraction, is, front, back) = parts in rw (sym e) at (rw (sym is) at (with_point whole fraction after (digits_all whole front).0 (digits_all fraction back)))
 ]
   where
     at_least : (t : List ℕ) → length bytes ≤ whole_len t → length bytes ≤ number_len t
     at_least t reach = choose (λ n. length bytes ≤ n) (decimals_len t == 0) _ _ (λ _. reach) (λ _. omega arith)
 
-    with_point : (whole behind after : List ℕ) → list_all is_ascii_digit whole ≡ true → (list_all is_ascii_digit behind ≡ true) × (0 < length behind)
-        → length (whole ++ 46 ∷ behind) ≤ number_len ((whole ++ 46 ∷ behind) ++ after)
-    with_point whole behind after front back =
-        let text : List ℕ = (whole ++ 46 ∷ behind) ++ after in
-        let split : text ≡ whole ++ 46 ∷ (behind ++ after) = append_assoc whole (46 ∷ behind) after in
-        let before : whole_len text ≡ length whole = rw split (run_exact is_ascii_digit whole (behind ++ after) 46 front refl) in
-        let rest : drop (whole_len text) text ≡ 46 ∷ (behind ++ after) = rw (before, split) (drop-append_seam whole (46 ∷ (behind ++ after))) in
-        let count : decimals_len text ≡ prefix_len is_ascii_digit (behind ++ after) = rw rest refl in
-        let reach = run_longest is_ascii_digit behind after back.0 in
+    with_point : (whole fraction after : List ℕ) → list_all is_ascii_digit whole ≡ true → (list_all is_ascii_digit fraction ≡ true) × (0 < length fraction)
+        → length (whole ++ 46 ∷ fraction) ≤ number_len ((whole ++ 46 ∷ fraction) ++ after)
+    with_point whole fraction after front back =
+        let text : List ℕ = (whole ++ 46 ∷ fraction) ++ after in
+        let split : text ≡ whole ++ 46 ∷ (fraction ++ after) = append_assoc whole (46 ∷ fraction) after in
+        let before : whole_len text ≡ length whole = rw split (run_exact is_ascii_digit whole (fraction ++ after) 46 front refl) in
+        let rest : drop (whole_len text) text ≡ 46 ∷ (fraction ++ after) = rw (before, split) (drop-append_seam whole (46 ∷ (fraction ++ after))) in
+        let count : decimals_len text ≡ prefix_len is_ascii_digit (fraction ++ after) = rw rest refl in
+        let reach = run_longest is_ascii_digit fraction after back.0 in
         let some = back.1 in
-        let size : length (whole ++ 46 ∷ behind) ≡ length whole + suc (length behind) = length-append whole (46 ∷ behind) in
-        choose (λ n. length (whole ++ 46 ∷ behind) ≤ n) (decimals_len text == 0) _ _
+        let size : length (whole ++ 46 ∷ fraction) ≡ length whole + suc (length fraction) = length-append whole (46 ∷ fraction) in
+        choose (λ n. length (whole ++ 46 ∷ fraction) ≤ n) (decimals_len text == 0) _ _
         (λ none. let zero : decimals_len text ≡ 0 = eqb-true (decimals_len text) 0 none in absurd (omega arith)) (λ _. omega arith)
 
 -- a run that is not empty
@@ -77,10 +77,10 @@ run_digits xs some =
     all_digits (take (prefix_len is_ascii_digit xs) xs) (run_all is_ascii_digit xs) (omega (arith, length-take (prefix_len is_ascii_digit xs) xs))
 
 -- a point and digits
-point_form : (rest : List ℕ) → (decimals rest == 0) ≡ false → (behind : List ℕ) × (take (1 + decimals rest) rest ≡ 46 ∷ behind) × (is_digits behind ≡ true)
+point_form : (rest : List ℕ) → (decimals rest == 0) ≡ false → (fraction : List ℕ) × (take (1 + decimals rest) rest ≡ 46 ∷ fraction) × (is_digits fraction ≡ true)
 point_form [] some = absurd (cc some)
 point_form (b ∷ rest) some =
-    choose (λ n. (n == 0) ≡ false → (behind : List ℕ) × (take (1 + n) (b ∷ rest) ≡ 46 ∷ behind) × (is_digits behind ≡ true)) (b == 46) (prefix_len is_ascii_digit rest) 0
+    choose (λ n. (n == 0) ≡ false → (fraction : List ℕ) × (take (1 + n) (b ∷ rest) ≡ 46 ∷ fraction) × (is_digits fraction ≡ true)) (b == 46) (prefix_len is_ascii_digit rest) 0
     (λ point more.
     let same : 1 + prefix_len is_ascii_digit rest ≡ suc (prefix_len is_ascii_digit rest) = omega arith in
     let is : b ≡ 46 = eqb-true b 46 point in
@@ -92,9 +92,9 @@ pub number_form : (text : List ℕ) → 0 < whole_len text → IsNumber (take (n
 number_form text some =
     choose (λ n. IsNumber (take n text)) (decimals_len text == 0) _ _ (λ _. inl (run_digits text some))
     (λ more.
-    let (behind, is, digits) = point_form (drop (whole_len text) text) more in
+    let (fraction, is, digits) = point_form (drop (whole_len text) text) more in
     let sum : whole_len text + 1 + decimals_len text ≡ whole_len text + (1 + decimals_len text) = omega arith in
-    inr (take (whole_len text) text, behind, rw (sum, take-add (whole_len text) (1 + decimals_len text) text, is) refl, run_digits text some, digits))
+    inr (take (whole_len text) text, fraction, rw (sum, take-add (whole_len text) (1 + decimals_len text) text, is) refl, run_digits text some, digits))
 
 -- one more, where there is a number
 longer_is : (k n : ℕ) (o : Option ℕ) → longer k o ≡ Some n → (m : ℕ) × (o ≡ Some m) × (n ≡ k + m)

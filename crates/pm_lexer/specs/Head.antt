@@ -21,7 +21,7 @@ name_at at text =
     if nat_lt NAME_BYTES n then Err (bad.LongName at)
     else Ok (head.Piece (if is_some (reserved_word (take n text)) then kind.Reserved else kind.Name) n)
 
--- a number of at most 30 digits, at most 6 of them behind the point
+-- a number of at most 30 digits, at most 6 of them after the point
 unfoldable pub number_at : ℕ → List ℕ → Result Head LexBad
 number_at at text =
     if nat_lt DIGITS (whole_len text + decimals_len text) || nat_lt DECIMALS (decimals_len text) then Err (bad.LongNumber at)
@@ -39,7 +39,7 @@ named_at at name =
     else (if nat_lt NAME_BYTES (length (single_quotes 34 name)) then Err (bad.LongName at)
     else plain_at at (length name) (position is_ascii_control name))
 
--- a quoted name, by the text behind its first quote and the place of its last one there
+-- a quoted name, by the text after its first quote and the place of its last one there
 abbrev pub closed_name_at : ℕ → List ℕ → Option ℕ → Result Head LexBad
 closed_name_at at rest None = Err (bad.OpenText at)
 closed_name_at at rest (Some n) = named_at at (take n rest)
@@ -47,7 +47,7 @@ closed_name_at at rest (Some n) = named_at at (take n rest)
 abbrev pub quoted_at : ℕ → List ℕ → Result Head LexBad
 quoted_at at rest = closed_name_at at rest (quotation 34 rest)
 
--- a text, by the place of its last quote behind its first one
+-- a text, by the place of its last quote after its first one
 abbrev pub closed_text_at : ℕ → Option ℕ → Result Head LexBad
 closed_text_at at None = Err (bad.OpenText at)
 closed_text_at at (Some n) = Ok (head.Piece kind.Text (n + 2))
@@ -73,7 +73,7 @@ head_of at (b ∷ rest) =
     else (if b == 39 then text_at at rest
     else sign_at at (b ∷ rest))))))
 
--- the text may be cut behind its first n bytes, of which there is one
+-- the text may be cut after its first n bytes, of which there is one
 pub record IsCut (text : List ℕ) (n : ℕ) : Type 0 where
   pub some : 0 < n
   pub within : n ≤ length text

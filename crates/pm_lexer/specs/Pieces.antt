@@ -6,12 +6,12 @@ use Rattle.pm_lexer.specs.declared.token.Token.{Token}
 use Rattle.pm_lexer.specs.declared.token.TokenKind.{TokenKind}
 use Rattle.pm_lexer.specs.declared.token.TokenKind.TheVariants as kind
 
--- the digits that stand behind a point, where the text begins with one
+-- the digits that stand after a point, where the text begins with one
 abbrev pub decimals : List ℕ → ℕ
 decimals [] = 0
 decimals (b ∷ rest) = if b == 46 then prefix_len is_ascii_digit rest else 0
 
--- a number: its digits before the point, and those behind it
+-- a number: its digits before the point, and those after it
 abbrev pub whole_len : List ℕ → ℕ
 whole_len text = prefix_len is_ascii_digit text
 
@@ -26,7 +26,7 @@ abbrev pub longer : ℕ → Option ℕ → Option ℕ
 longer n None = None
 longer n (Some m) = Some (n + m)
 
--- behind an opening quote: the bytes up to the closing quote, which stands before no quote; a quote before a quote is a doubled one
+-- after an opening quote: the bytes up to the closing quote, which stands before no quote; a quote before a quote is a doubled one
 unfoldable pub quotation : ℕ → List ℕ → Option ℕ
 quotation quote [] = None
 quotation quote (b ∷ []) = if b == quote then Some 0 else None
@@ -49,10 +49,10 @@ NoneBefore b bytes n = (k : ℕ) → k < n → slice_index bytes k ≢ b
 abbrev pub IsFirst : ℕ → List ℕ → ℕ → Type 0
 IsFirst b bytes i = (i < length bytes) × (slice_index bytes i ≡ b) × NoneBefore b bytes i
 
--- what stands behind a quote, where one comes next
-abbrev pub behind_quote : ℕ → List ℕ → List ℕ
-behind_quote quote [] = []
-behind_quote quote (b ∷ rest) = if b == quote then rest else b ∷ rest
+-- what stands after a quote, where one comes next
+abbrev pub after_quote : ℕ → List ℕ → List ℕ
+after_quote quote [] = []
+after_quote quote (b ∷ rest) = if b == quote then rest else b ∷ rest
 
 -- what stands between these quotes, where they enclose the bytes
 abbrev pub inside : ℕ → List ℕ → List ℕ

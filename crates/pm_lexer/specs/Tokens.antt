@@ -16,13 +16,13 @@ abbrev pub end_token : ℕ → Token
 end_token at = record { kind = kind.End; slice = []; at = at }
 
 -- the tokens of a text that begins at this place, of whose bytes the first n belong to what stands before
-unfoldable pub tokens_behind : ℕ → ℕ → List ℕ → Result (List Token) LexBad
-tokens_behind n at [] = Ok (end_token at ∷ [])
-tokens_behind (suc n) at (b ∷ rest) = tokens_behind n (suc at) rest
-tokens_behind zero at (b ∷ rest) =
+unfoldable pub tokens_after : ℕ → ℕ → List ℕ → Result (List Token) LexBad
+tokens_after n at [] = Ok (end_token at ∷ [])
+tokens_after (suc n) at (b ∷ rest) = tokens_after n (suc at) rest
+tokens_after zero at (b ∷ rest) =
     elim (head_of at (b ∷ rest)) [
-      | Ok (head.Gap n) ↦ tokens_behind (n - 1) (suc at) rest
-      | Ok (head.Piece k n) ↦ before (record { kind = k; slice = take n (b ∷ rest); at = at }) (tokens_behind (n - 1) (suc at) rest)
+      | Ok (head.Gap n) ↦ tokens_after (n - 1) (suc at) rest
+      | Ok (head.Piece k n) ↦ before (record { kind = k; slice = take n (b ∷ rest); at = at }) (tokens_after (n - 1) (suc at) rest)
       | Err e ↦ Err e
     ]
 
@@ -33,7 +33,7 @@ all_before tokens (Err e) = Err e
 
 -- the tokens of a text, or the refusal with the least place
 unfoldable pub tokens_of : List ℕ → Result (List Token) LexBad
-tokens_of text = tokens_behind 0 0 text
+tokens_of text = tokens_after 0 0 text
 
 -- a number of a text has at most 30 digits and a point
 abbrev pub IsShortNumber : Token → Type 0

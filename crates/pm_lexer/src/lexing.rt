@@ -1,6 +1,6 @@
 //! The tokens of a text.
 ghost use Rattle.std.specs.Prelude.{◌≡◌, ◌≢◌, Ok, Err, IfOk, IfErr, OnOk, All, ◌<◌, ◌+◌, ◌^◌, length, drop};
-ghost use Rattle.pm_lexer.specs.Tokens.{tokens_of, tokens_behind, all_before, IsShortNumber};
+ghost use Rattle.pm_lexer.specs.Tokens.{tokens_of, tokens_after, all_before, IsShortNumber};
 ghost use Rattle.pm_lexer.specs.Head.{IsCut};
 
 use crate::fault::LexBad;
@@ -40,9 +40,9 @@ fn step(alloc: Global, tokens: &mut Tokens, rest: &str, at: u64) -> Result<usize
     requires room { at + length rest.now < 2 ^ 63 }
     requires short { All IsShortNumber tokens.old }
     ensures cut { IfOk result (λ n. IsCut rest.now n) }
-    ensures walked { IfOk result (λ n. all_before tokens.old (tokens_behind 0 at rest.now) ≡ all_before tokens.new (tokens_behind 0 (at + n) (drop n rest.now))) }
+    ensures walked { IfOk result (λ n. all_before tokens.old (tokens_after 0 at rest.now) ≡ all_before tokens.new (tokens_after 0 (at + n) (drop n rest.now))) }
     ensures short_numbers { OnOk result (All IsShortNumber tokens.new) }
-    ensures refused { IfErr result (λ e. e ≢ LexBad.Memory → tokens_behind 0 at rest.now ≡ Err e) }
+    ensures refused { IfErr result (λ e. e ≢ LexBad.Memory → tokens_after 0 at rest.now ≡ Err e) }
 {
     match head_of(rest, at)? {
         Head::Gap(len) => Ok(len),

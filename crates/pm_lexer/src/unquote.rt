@@ -1,6 +1,6 @@
 //! What a quoted token stands for.
 ghost use Rattle.std.specs.Prelude.{◌≡◌, ◌<◌, ◌≤◌, ◌^◌, ◌++◌, take, drop, length, IfOk, MatchOption};
-ghost use Rattle.pm_lexer.specs.Pieces.{inside, behind_quote, single_quotes, content_of, NoneBefore, IsFirst};
+ghost use Rattle.pm_lexer.specs.Pieces.{inside, after_quote, single_quotes, content_of, NoneBefore, IsFirst};
 
 use crate::token::{Token, TokenKind};
 use pm_values::Txt;
@@ -34,7 +34,7 @@ fn inside(quote: u8, text: &str) -> &str
 }
 
 // The text with each doubled quote once.
-#[tactic(auto, using(crate::proofs::QuoteEnds::boundary_behind_quote))]
+#[tactic(auto, using(crate::proofs::QuoteEnds::boundary_after_quote))]
 fn single_quotes(alloc: Global, quote: u8, text: &str) -> Result<Txt, AllocError>
     requires { quote < 128 }
     ensures { IfOk result (λ single. single ≡ single_quotes quote text.now) }
@@ -50,7 +50,7 @@ fn single_quotes(alloc: Global, quote: u8, text: &str) -> Result<Txt, AllocError
             Some(at) => {
                 let (piece, after) = rest.split_at(at + 1);
                 single.push_str(piece)?;
-                rest = behind_quote(quote, after);
+                rest = after_quote(quote, after);
             }
         }
     }
@@ -68,11 +68,11 @@ pub(crate) fn quote_at(quote: u8, bytes: &[u8]) -> Option<usize>
     None
 }
 
-// What stands behind a quote, where one comes next.
+// What stands after a quote, where one comes next.
 #[tactic(auto, using(crate::proofs::QuoteEnds::boundary_after_first))]
-fn behind_quote(quote: u8, text: &str) -> &str
+fn after_quote(quote: u8, text: &str) -> &str
     requires { quote < 128 }
-    ensures { result.now ≡ behind_quote quote text.now }
+    ensures { result.now ≡ after_quote quote text.now }
 {
     let bytes = text.as_bytes();
     if !bytes.is_empty() && bytes[0] == quote {

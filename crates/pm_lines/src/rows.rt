@@ -34,7 +34,7 @@ pub fn put_row<S: Sink>(alloc: Global, sink: &mut S, fields: &[Txt]) -> Result<(
     Ok(())
 }
 
-/// These bytes, and the fields as a CSV record behind them.
+/// These bytes, and the fields as a CSV record after them.
 fn with_record(before: Vec<u8>, alloc: Global, fields: &[Txt]) -> Result<Vec<u8>, AllocError>
     ensures { IfOk result (λ line. line.items ≡ before.items ++ row_text default_writer fields.now) }
 {

@@ -9,7 +9,8 @@ use Rattle.pm_plan.specs.declared.root.Root.{Root}
 use Rattle.pm_plan.specs.declared.root.Root.TheVariants as root
 use Rattle.pm_plan.specs.Tree.{Unary, Filter, Project, Sort, Group, Method, Hash, Merge, On, Seek, Tree, Scan, Over, Join, Index, right_number}
 use Rattle.pm_plan.specs.Preorder.{Subplan, Rooted, Sought, unary_node, join_node, seek_node, node_of, node_at, IsTreeAt}
-use Rattle.pm_plan.specs.Standing.{unary_of, method_of, root_node, Stands}
+use Rattle.pm_plan.specs.Standing.{Stands}
+use Rattle.pm_plan.specs.Roots.{unary_of, method_of, root_node}
 use Rattle.pm_plan.proofs.Walks.{EachAt-root}
 
 -- a node by the number of its children

@@ -111,12 +111,15 @@ abbrev pub operand_fits : List Kind → Operand → Bool
 operand_fits kinds (operand.Column at scale) = nat_lt at (length kinds) && nat_eq scale (scale_of (kind_at kinds at))
 operand_fits kinds (operand.Literal v scale) = nat_le scale 6
 
+-- both sides of a comparison fit the row, and each other
+abbrev pub comparison_fits : List Kind → Operand → Operand → Bool
+comparison_fits kinds left right = operand_fits kinds left && operand_fits kinds right && kinds_fit (operand_kind kinds left) (operand_kind kinds right)
+
 abbrev pub condition_layer : List Kind → Cond-F Bool → Bool
 condition_layer kinds (layer.All members) = list_all (λ m. m) members
 condition_layer kinds (layer.Any members) = list_all (λ m. m) members
 condition_layer kinds (layer.Not part) = part
-condition_layer kinds (layer.Compare how left right) =
-    operand_fits kinds left && operand_fits kinds right && kinds_fit (operand_kind kinds left) (operand_kind kinds right)
+condition_layer kinds (layer.Compare how left right) = comparison_fits kinds left right
 condition_layer kinds (layer.IsNull of) = operand_fits kinds of
 
 -- each operand of the condition fits the row, and each comparison its two sides

@@ -10,6 +10,7 @@ pub mod Unique
 pub mod References
 pub mod Flags
 pub mod Valid
+pub mod Roots
 pub mod Standing
 pub mod Fitting
 pub mod PlanLines

@@ -4,45 +4,18 @@ use Rattle.pm_values.specs.declared.value.Kind.{Kind}
 use Rattle.pm_values.specs.declared.value.Kind.TheVariants as kind
 use Rattle.pm_values.specs.Table.{Declaration}
 use Rattle.pm_plan.specs.declared.plan.Node.{Node}
-use Rattle.pm_plan.specs.declared.plan.Node.TheVariants as node
 use Rattle.pm_plan.specs.declared.plan.Pair.{Pair}
-use Rattle.pm_plan.specs.declared.root.Unary.{Unary as UnaryRead}
-use Rattle.pm_plan.specs.declared.root.Unary.TheVariants as unary
-use Rattle.pm_plan.specs.declared.root.Method.{Method as MethodRead}
-use Rattle.pm_plan.specs.declared.root.Method.TheVariants as method
-use Rattle.pm_plan.specs.declared.root.Root.{Root}
-use Rattle.pm_plan.specs.declared.root.Root.TheVariants as root
 use Rattle.pm_plan.specs.declared.kinds.Origin.{Origin}
 use Rattle.pm_plan.specs.declared.kinds.Origin.TheVariants as origin
 use Rattle.pm_plan.specs.declared.uniqueness.Side.{Side}
 use Rattle.pm_plan.specs.declared.uniqueness.Side.TheVariants as side
 use Rattle.pm_plan.specs.declared.fits.OperandClass.{OperandClass}
 use Rattle.pm_plan.specs.declared.fits.OperandClass.TheVariants as class
-use Rattle.pm_plan.specs.Tree.{Unary, Filter, Project, Sort, Group, Method, Hash, Merge, Seek, Tree, size}
-use Rattle.pm_plan.specs.Preorder.{Subplan, Rooted, Sought, unary_node, join_node, seek_node, node_at, IsTreeAt}
+use Rattle.pm_plan.specs.Tree.{Seek, Tree, size}
+use Rattle.pm_plan.specs.Preorder.{Subplan, Rooted, Sought, seek_node, node_at, IsTreeAt}
 use Rattle.pm_plan.specs.Kinds.{kinds_of, table_kinds, kind_at, OperandKind, OfColumn, OfNull, OfNumber, OfText}
 use Rattle.pm_plan.specs.Unique.{unique_on, unique_table, left_part}
 use Rattle.pm_plan.specs.Flags.{scanned_table}
-
--- ---- a node by the number of its children
-
-abbrev pub unary_of : UnaryRead → Unary
-unary_of (unary.Filter cond) = Filter cond.now
-unary_of (unary.Project columns) = Project columns.now
-unary_of (unary.Sort keys) = Sort keys.now
-unary_of (unary.Group keys items) = Group keys.now items.now
-
-abbrev pub method_of : MethodRead → Method
-method_of (method.Hash pad) = Hash pad
-method_of method.Merge = Merge
-
--- the node that is read so
-abbrev pub root_node : Root → Node
-root_node (root.Scan table label) = node.Scan table label.now
-root_node (root.Over op child) = unary_node (unary_of op) child
-root_node (root.Join by left right pairs unique) = join_node (method_of by) (record { pairs = pairs.now; unique = unique }) left right
-root_node (root.Index left seek cond) = node.Index left seek cond.now
-root_node (root.Seek left table label pairs unique) = node.Seek left table pairs.now label.now unique
 
 -- ---- a tree, or the Seek of an Index, in the list
 

@@ -4,7 +4,7 @@ ghost use Rattle.std.specs.List.{list_all};
 ghost use Rattle.pm_plan.specs.Preorder.{Subplan};
 ghost use Rattle.pm_plan.specs.Valid.{PairsFit};
 ghost use Rattle.pm_plan.specs.Standing.{Stands, subplan_kinds, operand_class};
-ghost use Rattle.pm_plan.specs.Kinds.{same_kind, is_number, scale_of, kinds_fit, operand_kind, operand_fits, condition_fits, condition_fits_if, pair_fits, item_fits};
+ghost use Rattle.pm_plan.specs.Kinds.{same_kind, is_number, scale_of, kinds_fit, operand_kind, operand_fits, comparison_fits, condition_fits, condition_fits_if, pair_fits, item_fits};
 
 use crate::kinds::{TOO_MANY, kind_at};
 use crate::plan::{Aggregate, Node, Pair};
@@ -103,7 +103,7 @@ fn comparison_fits(
     left: &Operand,
     right: &Operand,
 ) -> bool
-    ensures { (p : Subplan) → Stands nodes.now p n → result ≡ (operand_fits (subplan_kinds decls.now p) left.now && operand_fits (subplan_kinds decls.now p) right.now && kinds_fit (operand_kind (subplan_kinds decls.now p) left.now) (operand_kind (subplan_kinds decls.now p) right.now)) }
+    ensures { (p : Subplan) → Stands nodes.now p n → result ≡ comparison_fits (subplan_kinds decls.now p) left.now right.now }
 {
     let a = operand_class(nodes, decls, n, left);
     let b = operand_class(nodes, decls, n, right);

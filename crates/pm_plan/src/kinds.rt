@@ -3,11 +3,12 @@ ghost use Rattle.std.specs.Prelude.{◌≡◌, ◌+◌, ◌≤◌, ◌<◌, ◌^
 ghost use Rattle.std.specs.Option.{option_copied, option_and_then};
 ghost use Rattle.pm_values.specs.declared.value.Kind.{Kind as KindValue};
 ghost use Rattle.pm_plan.specs.Preorder.{Subplan};
-ghost use Rattle.pm_plan.specs.Standing.{Stands, subplan_kinds, subplan_width, unary_of, origin_kind};
+ghost use Rattle.pm_plan.specs.Standing.{Stands, subplan_kinds, subplan_width, origin_kind};
+ghost use Rattle.pm_plan.specs.Roots.{unary_of};
 ghost use Rattle.pm_plan.specs.Kinds.{table_width, table_kinds, kind_at, kind_of_item, kinds_over};
 
 use crate::plan::{Aggregate, Aggregates, Node};
-use crate::root::{Root, Unary, after, root_at};
+use crate::root::{Root, Unary, number_after, root_at};
 use pm_values::{Columns, Kind, TableDecl, TableDecls};
 
 /// One more than the greatest number of columns that an operator may have, and of pairs that a join may have.
@@ -81,7 +82,7 @@ pub fn width_at(nodes: &[Node], decls: &TableDecls, n: usize) -> usize
         Root::Over { op, .. } => width_over(*op, width_at(nodes, decls, n + 1)),
         Root::Join { right, .. } | Root::Index { seek: right, .. } => {
             let left = width_at(nodes, decls, n + 1);
-            capped_sum(left, width_at(nodes, decls, after(n, *right)))
+            capped_sum(left, width_at(nodes, decls, number_after(n, *right)))
         }
     }
 }
@@ -155,7 +156,7 @@ pub fn kind_at(nodes: &[Node], decls: &TableDecls, n: usize, column: u32) -> Opt
             if (column as usize) < left {
                 return kind_at(nodes, decls, n + 1, column);
             }
-            kind_at(nodes, decls, after(n, *right), column - left as u32)
+            kind_at(nodes, decls, number_after(n, *right), column - left as u32)
         }
     }
 }

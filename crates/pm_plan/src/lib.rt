@@ -21,6 +21,6 @@ pub use gauge::{Bound, Gauge, Shown, Whole};
 pub use plan::{
     Aggregate, Aggregates, Label, Node, Nodes, Pair, Pairs, Plan, SortKey, SortKeys, Unique,
 };
-pub use root::{Method, Root, Unary, after, pads, root_at};
+pub use root::{Method, Root, Unary, number_after, pads, root_at};
 pub use text::{node_text, plan_text};
 pub use valid::check_plan;

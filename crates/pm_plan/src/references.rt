@@ -8,7 +8,7 @@ ghost use Rattle.pm_plan.specs.Fitting.{unpadded, shifted};
 
 use crate::kinds::{capped_sum, table_at, width_at};
 use crate::plan::{Node, Pair};
-use crate::root::{Root, after, pads, root_at};
+use crate::root::{Root, number_after, pads, root_at};
 use crate::shape::keeps_columns;
 use pm_values::{ColumnDecl, Columns, Reference, TableDecls};
 
@@ -204,14 +204,14 @@ pub fn refers_at(
                 return true;
             }
             let next = capped_sum(from, width_at(nodes, decls, n + 1));
-            !pads(method) && refers_at(nodes, decls, after(n, right), next, target, pairs)
+            !pads(method) && refers_at(nodes, decls, number_after(n, right), next, target, pairs)
         }
         Root::Index { seek, .. } => {
             if refers_at(nodes, decls, n + 1, from, target, pairs) {
                 return true;
             }
             let next = capped_sum(from, width_at(nodes, decls, n + 1));
-            seek_refers(nodes, decls, after(n, seek), next, target, pairs)
+            seek_refers(nodes, decls, number_after(n, seek), next, target, pairs)
         }
         Root::Seek { .. } => false,
     }

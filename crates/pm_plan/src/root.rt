@@ -1,9 +1,9 @@
 //! A node of a plan, by the number of its children.
 ghost use Rattle.std.specs.Prelude.{◌≡◌, ◌-◌, ◌≤◌, ◌<◌, ◌^◌, ◌+◌, length, max, OnSome};
 ghost use Rattle.std.specs.Option.{option_map};
-ghost use Rattle.pm_plan.specs.Preorder.{node_at};
+ghost use Rattle.pm_plan.specs.Preorder.{node_at, unary_node, join_node};
 ghost use Rattle.pm_plan.specs.Tree.{pads};
-ghost use Rattle.pm_plan.specs.Standing.{method_of, root_node};
+ghost use Rattle.pm_plan.specs.Roots.{unary_of, method_of, root_node};
 
 use crate::plan::{Aggregates, Label, Node, Pairs, SortKeys, Unique};
 use pm_values::{Columns, Cond};
@@ -56,74 +56,70 @@ pub enum Root<'a> {
     },
 }
 
-// The node by its children.
-fn root_of(node: &Node) -> Root<'_>
-    ensures { root_node result ≡ node.now }
-{
-    match node {
-        Node::Scan { table, label } => Root::Scan {
-            table: *table,
-            label,
-        },
-        Node::Filter { child, cond } => Root::Over {
-            op: Unary::Filter(cond),
-            child: *child,
-        },
-        Node::Project { child, columns } => Root::Over {
-            op: Unary::Project(columns),
-            child: *child,
-        },
-        Node::Sort { child, keys } => Root::Over {
-            op: Unary::Sort(keys),
-            child: *child,
-        },
-        Node::Group { child, keys, items } => Root::Over {
-            op: Unary::Group(keys, items),
-            child: *child,
-        },
-        Node::Hash {
-            left,
-            right,
-            pairs,
-            unique,
-            pad,
-        } => Root::Join {
-            method: Method::Hash { pad: *pad },
+impl<'a> Root<'a> {
+    fn over(op: Unary<'a>, child: &u32) -> Root<'a>
+        ensures { root_node result ≡ unary_node (unary_of op.entry) child.now }
+    {
+        Root::Over { op, child: *child }
+    }
+
+    fn join(method: Method, left: &u32, right: &u32, pairs: &'a Pairs, unique: &Unique) -> Root<'a>
+        ensures { root_node result ≡ join_node (method_of method) (record { pairs = pairs.now; unique = unique.now }) left.now right.now }
+    {
+        Root::Join {
+            method,
             left: *left,
             right: *right,
             pairs,
             unique: *unique,
-        },
-        Node::Merge {
-            left,
-            right,
-            pairs,
-            unique,
-        } => Root::Join {
-            method: Method::Merge,
-            left: *left,
-            right: *right,
-            pairs,
-            unique: *unique,
-        },
-        Node::Seek {
-            left,
-            table,
-            pairs,
-            label,
-            unique,
-        } => Root::Seek {
-            left: *left,
-            table: *table,
-            label,
-            pairs,
-            unique: *unique,
-        },
-        Node::Index { left, seek, cond } => Root::Index {
-            left: *left,
-            seek: *seek,
-            cond,
-        },
+        }
+    }
+
+    // The node by its children.
+    fn of(node: &'a Node) -> Root<'a>
+        ensures { root_node result ≡ node.now }
+    {
+        match node {
+            Node::Scan { table, label } => Root::Scan {
+                table: *table,
+                label,
+            },
+            Node::Filter { child, cond } => Root::over(Unary::Filter(cond), child),
+            Node::Project { child, columns } => Root::over(Unary::Project(columns), child),
+            Node::Sort { child, keys } => Root::over(Unary::Sort(keys), child),
+            Node::Group { child, keys, items } => Root::over(Unary::Group(keys, items), child),
+            Node::Hash {
+                left,
+                right,
+                pairs,
+                unique,
+                pad,
+            } => Root::join(Method::Hash { pad: *pad }, left, right, pairs, unique),
+            Node::Merge {
+                left,
+                right,
+                pairs,
+                unique,
+            } => Root::join(Method::Merge, left, right, pairs, unique),
+            Node::Seek {
+                left,
+                table,
+                pairs,
+                label,
+                unique,
+            } => Root::Seek {
+                left: *left,
+                table: *table,
+                label,
+                pairs,
+                unique: *unique,
+            },
+            Node::Index { left, seek, cond } => Root::Index {
+                left: *left,
+                seek: *seek,
+                cond,
+            },
+        }
     }
 }
 
@@ -133,11 +129,11 @@ pub fn root_at(nodes: &[Node], n: usize) -> Option<Root<'_>>
     ensures within { OnSome result (n ≤ length nodes.now) }
     ensures bound { length nodes.now < 2 ^ 63 }
 {
-    Some(root_of(nodes.get(n.saturating_sub(1))?))
+    Some(Root::of(nodes.get(n.saturating_sub(1))?))
 }
 
 /// The number of a right side of the node of number `n`: this one, where it comes after `n`.
-pub fn after(n: usize, number: u32) -> usize
+pub fn number_after(n: usize, number: u32) -> usize
     requires { n < 2 ^ 63 }
     ensures { result ≡ max (n + 1) number }
 {

@@ -3,12 +3,13 @@ ghost use Rattle.std.specs.Prelude.{◌≡◌, ◌↔◌, ◌+◌, ◌-◌, ℕ,
 ghost use Rattle.pm_plan.specs.Tree.{Tree, keeps_columns};
 ghost use Rattle.pm_plan.specs.Preorder.{Subplan, node_at, IsTreeAt};
 ghost use Rattle.pm_plan.specs.Valid.{is_filter, is_group, is_joinable, has_group, is_source, leftmost_table, order_of, IsOrdered};
-ghost use Rattle.pm_plan.specs.Standing.{Stands, unary_of, subplan_table, side_columns};
+ghost use Rattle.pm_plan.specs.Standing.{Stands, subplan_table, side_columns};
+ghost use Rattle.pm_plan.specs.Roots.{unary_of};
 ghost use Rattle.pm_plan.specs.Fitting.{is_scan};
 
 use crate::kinds::table_at;
 use crate::plan::{Node, Pair};
-use crate::root::{Root, Unary, after, root_at};
+use crate::root::{Root, Unary, number_after, root_at};
 use crate::uniqueness::{Side, side_column};
 use pm_values::TableDecls;
 
@@ -57,7 +58,7 @@ pub fn is_joinable(nodes: &[Node], n: usize) -> bool
         Root::Scan { .. } => true,
         Root::Over { op, .. } => is_filter(op) && is_joinable(nodes, n + 1),
         Root::Join { right, .. } => {
-            is_joinable(nodes, n + 1) && is_joinable(nodes, after(n, right))
+            is_joinable(nodes, n + 1) && is_joinable(nodes, number_after(n, right))
         }
         Root::Index { .. } => is_joinable(nodes, n + 1),
         Root::Seek { .. } => false,
@@ -74,7 +75,8 @@ pub fn has_group(nodes: &[Node], n: usize) -> bool
     match root {
         Root::Scan { .. } => false,
         Root::Over { op, .. } => is_group(op) || has_group(nodes, n + 1),
-        Root::Join { right, .. } => has_group(nodes, n + 1) || has_group(nodes, after(n, right)),
+        Root::Join { right, .. } => has_group(nodes, n + 1)
+            || has_group(nodes, number_after(n, right)),
         Root::Index { .. } => has_group(nodes, n + 1),
         Root::Seek { .. } => false,
     }

@@ -10,7 +10,7 @@ ghost use Rattle.pm_plan.specs.Standing.{Stands, subplan_width, subplan_unique, 
 
 use crate::kinds::table_at;
 use crate::plan::{Node, Pair};
-use crate::root::{Root, after, root_at};
+use crate::root::{Root, number_after, root_at};
 use crate::shape::keeps_columns;
 use pm_values::TableDecls;
 
@@ -101,11 +101,16 @@ pub fn is_unique_at(
             pairs: own,
             ..
         } => {
-            is_unique_at(nodes, decls, after(n, *right), own.as_slice(), Side::Right)
-                && is_unique_at(nodes, decls, n + 1, pairs, side)
+            is_unique_at(
+                nodes,
+                decls,
+                number_after(n, *right),
+                own.as_slice(),
+                Side::Right,
+            ) && is_unique_at(nodes, decls, n + 1, pairs, side)
         }
         Root::Index { seek, .. } => {
-            is_seek_unique(nodes, decls, after(n, *seek))
+            is_seek_unique(nodes, decls, number_after(n, *seek))
                 && is_unique_at(nodes, decls, n + 1, pairs, side)
         }
     }

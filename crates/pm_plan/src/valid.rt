@@ -6,7 +6,8 @@ ghost use Rattle.pm_plan.specs.Preorder.{Subplan, seek_node, node_at, IsTreeAt};
 ghost use Rattle.pm_plan.specs.Kinds.{kinds_of, item_fits};
 ghost use Rattle.pm_plan.specs.Flags.{flags_of, refers_if};
 ghost use Rattle.pm_plan.specs.Valid.{are_below, has_group, IsTable, MethodFits, IsValidJoin, IsValidSeek, IsValidGroup, IsValidOver, IsValidRoot, IsValidTree, IsValid};
-ghost use Rattle.pm_plan.specs.Standing.{unary_of, method_of, Stands, subplan_kinds};
+ghost use Rattle.pm_plan.specs.Standing.{Stands, subplan_kinds};
+ghost use Rattle.pm_plan.specs.Roots.{unary_of, method_of};
 ghost use Rattle.pm_plan.specs.Fitting.{whole_table, IsPaired, HasSeek, AreBelow, reads_table};
 
 use crate::fits::{condition_fits, condition_fits_if, item_fits, pairs_fit, same_kind};
@@ -14,7 +15,7 @@ use crate::kinds::{TOO_MANY, kind_at, table_at, width_at};
 use crate::numbering::is_numbered;
 use crate::plan::{Aggregate, Aggregates, Label, Node, Pair, Plan, SortKey, Unique};
 use crate::references::refers_at;
-use crate::root::{Method, Root, Unary, after, pads, root_at};
+use crate::root::{Method, Root, Unary, number_after, pads, root_at};
 use crate::shape::{has_group, is_joinable, is_ordered, is_source, scanned_table};
 use crate::uniqueness::{Side, is_unique_at};
 use pm_values::{Columns, Kind, TableDecls};
@@ -253,7 +254,7 @@ fn is_valid_root(nodes: &[Node], decls: &TableDecls, n: usize) -> bool
             unique,
             ..
         } => {
-            let right = after(n, right);
+            let right = number_after(n, right);
             is_valid_join(nodes, decls, n + 1, right, method, pairs.as_slice(), unique)
         }
         Root::Index { seek, cond, .. } => {
@@ -263,7 +264,7 @@ fn is_valid_root(nodes: &[Node], decls: &TableDecls, n: usize) -> bool
             if !is_joinable(nodes, n + 1) {
                 return false;
             }
-            is_valid_seek(nodes, decls, n + 1, after(n, seek))
+            is_valid_seek(nodes, decls, n + 1, number_after(n, seek))
         }
         Root::Seek { .. } => false,
     }
@@ -281,7 +282,7 @@ fn are_valid_below(nodes: &[Node], decls: &TableDecls, n: usize) -> bool
         Root::Scan { .. } => true,
         Root::Over { .. } => are_valid(nodes, decls, n + 1),
         Root::Join { right, .. } => {
-            are_valid(nodes, decls, n + 1) && are_valid(nodes, decls, after(n, right))
+            are_valid(nodes, decls, n + 1) && are_valid(nodes, decls, number_after(n, right))
         }
         Root::Index { .. } => are_valid(nodes, decls, n + 1),
         Root::Seek { .. } => false,

@@ -4,3 +4,4 @@ pub mod Pairs
 pub mod Build
 pub mod Bound
 pub mod Worked
+pub mod WorkedTrees

@@ -68,7 +68,7 @@ pub struct Query {
     pub distinct: bool,
 }
 
-/// How the sources behind the first one are joined: as the tables' KEYs, ORDERs and sizes say, or all in one way where
+/// How the sources after the first one are joined: as the tables' KEYs, ORDERs and sizes say, or all in one way where
 /// that can be.
 #[derive(Clone, Copy, Debug, PartialEq, Eq)]
 pub enum Choice {

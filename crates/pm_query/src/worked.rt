@@ -1,19 +1,16 @@
 //! Worked examples of queries and their plans, each the contract of a function that does nothing: they are proved by
 //! computing.
-ghost use Rattle.std.specs.Prelude.{◌≡◌, true, false, [], ◌∷◌, None, Some, codes};
+ghost use Rattle.std.specs.Prelude.{◌≡◌, [], ◌∷◌, None, Some, codes};
 ghost use Rattle.pm_values.specs.declared.condition.Comparison.TheVariants as comparison;
 ghost use Rattle.pm_values.specs.declared.value.Value.TheVariants.{Null, Text};
-ghost use Rattle.pm_plan.specs.declared.plan.Node.TheVariants as node;
-ghost use Rattle.pm_values.specs.declared.condition.Cond.TheVariants as cond;
-ghost use Rattle.pm_values.specs.declared.condition.Operand.TheVariants as operand;
-ghost use Rattle.pm_plan.specs.Tree.{Project, Filter, Hash, Merge, Tree, Scan, Over, Join, Index};
-ghost use Rattle.pm_plan.specs.Worked.{number, label, pair, flags, on, against, order_decl, customer_decl, ordered_order_decl, ordered_customer_decl, referring_order_decl, shop, customers_first, no_orders, orders_alone, groups};
+ghost use Rattle.pm_plan.specs.Worked.{number, pair, on, against, order_decl, customer_decl, ordered_order_decl, ordered_customer_decl, referring_order_decl, shop, customers_first, no_orders, orders_alone, groups};
 ghost use Rattle.pm_work.specs.Worked.{hashed, sought_rows, sought_all, merged_rows, merged_few, counted, summed, looked_up, grouped_few, distinct_rows, total_join, padded_join};
 ghost use Rattle.pm_query.specs.declared.query.Choice.TheVariants as choice;
 ghost use Rattle.pm_query.specs.Answer.{answer};
-ghost use Rattle.pm_query.specs.Build.{tree_for, plan_for};
+ghost use Rattle.pm_query.specs.Build.{tree_for};
 ghost use Rattle.pm_query.specs.Bound.{IsBound};
-ghost use Rattle.pm_query.specs.Worked.{orders_sorted, descending, ranges_by_key, many_orders, different_counts, no_amount, conjunct, orders_with_names, large_orders, sums_by_key, different_keys, sums_by_customer, order_count, few_in_many, priced_items, equal, column_less, numbers_less, three_sources, two_orders, customers_left_joined, orders_twice, keyless_and_keyed};
+ghost use Rattle.pm_query.specs.Worked.{orders_sorted, descending, ranges_by_key, many_orders, different_counts, no_amount, conjunct, orders_with_names, large_orders, sums_by_key, different_keys, sums_by_customer, order_count, few_in_many, priced_items, equal, three_sources, two_orders, customers_left_joined, orders_twice, keyless_and_keyed};
+ghost use Rattle.pm_query.specs.WorkedTrees.{few_scanned_by_hash, items_with_prices, three_by_hash, three_by_index, both_orders_merged, first_orders_merged, second_order_by_hash, sought_without_key, two_pairs_by_hash, keyed_sought, keyed_by_hash, orders_twice_joined, padded_filtered_above, padded_right_filtered, filtered_not_total};
 
 /// A join with a condition on its left side: by a hash table, by an index, and by merging where both tables have an ORDER.
 pub fn joins_worked()
@@ -29,12 +26,12 @@ pub fn joins_worked()
 /// A table with a KEY is looked up where its left side is at most an eighth of it.
 pub fn index_worked()
     ensures small { tree_for few_in_many (2 ∷ 16 ∷ []) choice.Auto ≡ looked_up }
-    ensures large { tree_for few_in_many (2 ∷ 15 ∷ []) choice.Auto ≡ Over (Project (1 ∷ [])) (Join (Hash false) (on (pair 0 0) (flags false true)) (Scan 0 (label (codes "one") (codes "a"))) (Scan 1 (label (codes "big") (codes "b")))) }
+    ensures large { tree_for few_in_many (2 ∷ 15 ∷ []) choice.Auto ≡ few_scanned_by_hash }
 {}
 
 /// A side is unique only where its whole KEY is among the columns of the pairs.
 pub fn flags_worked()
-    ensures { tree_for priced_items (2 ∷ 9 ∷ []) choice.Hash ≡ Over (Project (0 ∷ 3 ∷ [])) (Join (Hash false) (on (pair 0 0) (flags true false)) (Scan 0 (label (codes "item") (codes "i"))) (Scan 1 (label (codes "price") (codes "p")))) }
+    ensures { tree_for priced_items (2 ∷ 9 ∷ []) choice.Hash ≡ items_with_prices }
 {}
 
 /// Grouping, HAVING, DISTINCT and ORDER BY.
@@ -53,27 +50,27 @@ pub fn groups_worked()
 /// source goes to that source, on its own columns below a hash join and on the joined row at an index join; what no
 /// source takes stands on top, in the order of the text.
 pub fn three_sources_worked()
-    ensures hash { tree_for three_sources (4 ∷ 3 ∷ 2 ∷ []) choice.Hash ≡ Over (Project (0 ∷ 6 ∷ [])) (Over (Filter (cond.All (column_less 2 5 ∷ numbers_less ∷ []))) (Join (Hash false) (on (pair 4 0) (flags false true)) (Join (Hash false) (on (pair 1 0) (flags false true)) (Scan 0 (label (codes "ord") (codes "o"))) (Over (Filter (against comparison.Greater 0 1)) (Scan 1 (label (codes "client") (codes "c"))))) (Scan 2 (label (codes "region") (codes "r"))))) }
-    ensures index { tree_for three_sources (4 ∷ 3 ∷ 2 ∷ []) choice.Index ≡ Over (Project (0 ∷ 6 ∷ [])) (Over (Filter (cond.All (column_less 2 5 ∷ numbers_less ∷ []))) (Index (Index (Scan 0 (label (codes "ord") (codes "o"))) (record { table = 1; label = label (codes "client") (codes "c"); on = on (pair 1 0) (flags false true) }) (Some (against comparison.Greater 3 1))) (record { table = 2; label = label (codes "region") (codes "r"); on = on (pair 4 0) (flags false true) }) None)) }
+    ensures hash { tree_for three_sources (4 ∷ 3 ∷ 2 ∷ []) choice.Hash ≡ three_by_hash }
+    ensures index { tree_for three_sources (4 ∷ 3 ∷ 2 ∷ []) choice.Index ≡ three_by_index }
 {}
 
 /// A merge join takes its pairs in the order of the two ORDERs, whose first columns they are; where they are not, a hash
 /// join takes them in the order of the text.
 pub fn orders_worked()
-    ensures both { tree_for (two_orders (conjunct (Some 1) (equal 0 3) ∷ conjunct (Some 1) (equal 1 4) ∷ [])) (2 ∷ 2 ∷ []) choice.Auto ≡ Over (Project (0 ∷ [])) (Join Merge (on (record { left = 1; right = 1 } ∷ record { left = 0; right = 0 } ∷ []) (flags false false)) (Scan 0 (label (codes "t") (codes "x"))) (Scan 1 (label (codes "u") (codes "y")))) }
-    ensures first { tree_for (two_orders (conjunct (Some 1) (equal 4 1) ∷ [])) (2 ∷ 2 ∷ []) choice.Merge ≡ Over (Project (0 ∷ [])) (Join Merge (on (pair 1 1) (flags false false)) (Scan 0 (label (codes "t") (codes "x"))) (Scan 1 (label (codes "u") (codes "y")))) }
-    ensures second_alone { tree_for (two_orders (conjunct (Some 1) (equal 0 3) ∷ [])) (2 ∷ 2 ∷ []) choice.Merge ≡ Over (Project (0 ∷ [])) (Join (Hash false) (on (pair 0 0) (flags false false)) (Scan 0 (label (codes "t") (codes "x"))) (Scan 1 (label (codes "u") (codes "y")))) }
+    ensures both { tree_for (two_orders (conjunct (Some 1) (equal 0 3) ∷ conjunct (Some 1) (equal 1 4) ∷ [])) (2 ∷ 2 ∷ []) choice.Auto ≡ both_orders_merged }
+    ensures first { tree_for (two_orders (conjunct (Some 1) (equal 4 1) ∷ [])) (2 ∷ 2 ∷ []) choice.Merge ≡ first_orders_merged }
+    ensures second_alone { tree_for (two_orders (conjunct (Some 1) (equal 0 3) ∷ [])) (2 ∷ 2 ∷ []) choice.Merge ≡ second_order_by_hash }
 {}
 
 /// A merge join comes before an index join, where both can be; an index join needs no KEY where it is asked for; the
 /// left side's first bound decides, not the first table's size.
 pub fn ways_worked()
     ensures merge_first { tree_for (large_orders ordered_order_decl ordered_customer_decl) (4 ∷ 64 ∷ []) choice.Auto ≡ merged_rows }
-    ensures index_without_key { tree_for (two_orders (conjunct (Some 1) (equal 0 3) ∷ [])) (2 ∷ 2 ∷ []) choice.Index ≡ Over (Project (0 ∷ [])) (Index (Scan 0 (label (codes "t") (codes "x"))) (record { table = 1; label = label (codes "u") (codes "y"); on = on (pair 0 0) (flags false false) }) None) }
-    ensures two_pairs_one_order { tree_for (orders_with_names ordered_order_decl ordered_customer_decl (conjunct (Some 1) (equal 0 3) ∷ [])) (4 ∷ 3 ∷ []) choice.Merge ≡ Over (Project (4 ∷ 2 ∷ [])) (Join (Hash false) (on (record { left = 1; right = 0 } ∷ record { left = 0; right = 0 } ∷ []) (flags true true)) (Scan 0 (label (codes "ord") (codes "o"))) (Scan 1 (label (codes "cust") (codes "c")))) }
-    ensures small { tree_for keyless_and_keyed (2 ∷ 3 ∷ 48 ∷ []) choice.Auto ≡ Over (Project (0 ∷ [])) (Index (Join (Hash false) (on (pair 0 0) (flags false false)) (Scan 0 (label (codes "a") (codes "a"))) (Scan 1 (label (codes "b") (codes "b")))) (record { table = 2; label = label (codes "big") (codes "c"); on = on (pair 0 0) (flags false true) }) None) }
-    ensures large { tree_for keyless_and_keyed (2 ∷ 3 ∷ 47 ∷ []) choice.Auto ≡ Over (Project (0 ∷ [])) (Join (Hash false) (on (pair 0 0) (flags false true)) (Join (Hash false) (on (pair 0 0) (flags false false)) (Scan 0 (label (codes "a") (codes "a"))) (Scan 1 (label (codes "b") (codes "b")))) (Scan 2 (label (codes "big") (codes "c")))) }
-    ensures outer_unique { tree_for orders_twice (4 ∷ 3 ∷ []) choice.Hash ≡ Over (Project (0 ∷ [])) (Join (Hash false) (on (pair 0 0) (flags true true)) (Join (Hash false) (on (pair 1 0) (flags false true)) (Scan 0 (label (codes "ord") (codes "o"))) (Scan 1 (label (codes "cust") (codes "c")))) (Scan 0 (label (codes "ord") (codes "p")))) }
+    ensures index_without_key { tree_for (two_orders (conjunct (Some 1) (equal 0 3) ∷ [])) (2 ∷ 2 ∷ []) choice.Index ≡ sought_without_key }
+    ensures two_pairs_one_order { tree_for (orders_with_names ordered_order_decl ordered_customer_decl (conjunct (Some 1) (equal 0 3) ∷ [])) (4 ∷ 3 ∷ []) choice.Merge ≡ two_pairs_by_hash }
+    ensures small { tree_for keyless_and_keyed (2 ∷ 3 ∷ 48 ∷ []) choice.Auto ≡ keyed_sought }
+    ensures large { tree_for keyless_and_keyed (2 ∷ 3 ∷ 47 ∷ []) choice.Auto ≡ keyed_by_hash }
+    ensures outer_unique { tree_for orders_twice (4 ∷ 3 ∷ []) choice.Hash ≡ orders_twice_joined }
 {}
 
 /// Rows are sorted by the first key, and by the next one where that is equal, also by columns that are not selected; the
@@ -92,14 +89,14 @@ pub fn left_join_worked()
     ensures rows { answer (customers_left_joined []) customers_first ≡ (Text (codes "Ann") ∷ number 5 ∷ []) ∷ (Text (codes "Ann") ∷ number 7 ∷ []) ∷ (Text (codes "Bob") ∷ Null ∷ []) ∷ (Text (codes "Cy") ∷ number 9 ∷ []) ∷ [] }
     ensures tree { tree_for (customers_left_joined []) (3 ∷ 4 ∷ []) choice.Index ≡ padded_join }
     ensures unmatched { answer (customers_left_joined (no_amount ∷ [])) customers_first ≡ (Text (codes "Bob") ∷ Null ∷ []) ∷ [] }
-    ensures above { tree_for (customers_left_joined (no_amount ∷ [])) (3 ∷ 4 ∷ []) choice.Auto ≡ Over (Project (1 ∷ 4 ∷ [])) (Over (Filter (cond.IsNull (operand.Column 4 0))) (Join (Hash true) (on (pair 0 1) (flags true false)) (Scan 0 (label (codes "cust") (codes "c"))) (Scan 1 (label (codes "ord") (codes "o"))))) }
-    ensures own { tree_for (customers_left_joined (conjunct (Some 1) (against comparison.Greater 4 5) ∷ [])) (3 ∷ 4 ∷ []) choice.Auto ≡ Over (Project (1 ∷ 4 ∷ [])) (Join (Hash true) (on (pair 0 1) (flags true false)) (Scan 0 (label (codes "cust") (codes "c"))) (Over (Filter (against comparison.Greater 2 5)) (Scan 1 (label (codes "ord") (codes "o"))))) }
+    ensures above { tree_for (customers_left_joined (no_amount ∷ [])) (3 ∷ 4 ∷ []) choice.Auto ≡ padded_filtered_above }
+    ensures own { tree_for (customers_left_joined (conjunct (Some 1) (against comparison.Greater 4 5) ∷ [])) (3 ∷ 4 ∷ []) choice.Auto ≡ padded_right_filtered }
 {}
 
 /// A join along a reference is total, and is not where the right side is filtered.
 pub fn total_join_worked()
     ensures total { tree_for (orders_with_names referring_order_decl customer_decl []) (3 ∷ 3 ∷ []) choice.Auto ≡ total_join }
-    ensures filtered { tree_for (orders_with_names referring_order_decl customer_decl (conjunct None (against comparison.Greater 3 1) ∷ [])) (3 ∷ 3 ∷ []) choice.Auto ≡ Over (Project (4 ∷ 2 ∷ [])) (Join (Hash false) (on (pair 1 0) (flags false true)) (Scan 0 (label (codes "ord") (codes "o"))) (Over (Filter (against comparison.Greater 0 1)) (Scan 1 (label (codes "cust") (codes "c"))))) }
+    ensures filtered { tree_for (orders_with_names referring_order_decl customer_decl (conjunct None (against comparison.Greater 3 1) ∷ [])) (3 ∷ 3 ∷ []) choice.Auto ≡ filtered_not_total }
 {}
 
 /// The queries of the examples are bound.

@@ -9,7 +9,7 @@ use Rattle.pm_grammar.specs.Reading.{Read, ◌>>=◌, token_at, name_at, named, 
 use Rattle.pm_grammar.proofs.Phrases.{Phrase, Reader, Nothing}
 use Rattle.pm_grammar.proofs.Readers.{Then, Or, Same, pure_reader, token_reader, then_reader, then_law, then_began, map_reader, same_reader}
 use Rattle.pm_grammar.proofs.Lists.{Further, further_able}
-use Rattle.pm_grammar.proofs.Furthers.{list_reader, list_parts, further_law, behind_reader, optional_reader}
+use Rattle.pm_grammar.proofs.Furthers.{list_reader, list_parts, further_law, after_reader, optional_reader}
 use Rattle.pm_grammar.proofs.Firsts.{BeginsWith, bars, first_peek, not_both}
 use Rattle.pm_grammar.proofs.Helpers.{token_began}
 use Rattle.pm_grammar.proofs.Symbols.{sample, sample_is, symbol_reader}
@@ -67,10 +67,10 @@ text_or_begins d g next (t ∷ ts) h = elim h [ inl num ↦ inl num.0 | inr text
 kind_reader : (S : Token → Type 0) (d : ℕ) → Reader S (λ _ _. IsKind) d kind_at
 unfolding kind_at same_word
 kind_reader S d =
-    let text_or = behind_reader S (is_word word.Text) (word_sample word.Text) (word_is word.Text) (Only kind.Text) (λ _ _. IsNum) d (λ r. Ok (kind.Text, r)) num_at (pure_reader S d kind.Text) (num_reader S d)
+    let text_or = after_reader S (is_word word.Text) (word_sample word.Text) (word_is word.Text) (Only kind.Text) (λ _ _. IsNum) d (λ r. Ok (kind.Text, r)) num_at (pure_reader S d kind.Text) (num_reader S d)
     (bars S (λ _ _. IsNum) _ (is_word word.Text) num_begins (λ t e f. two_words word.Text word.Num t refl e f)) in
     same_reader S IntOr (λ _ _. IsKind) d _ kind_same
-    (behind_reader S (is_word word.Int) (word_sample word.Int) (word_is word.Int) (Only kind.Int) TextOr d (λ r. Ok (kind.Int, r)) _ (pure_reader S d kind.Int) text_or
+    (after_reader S (is_word word.Int) (word_sample word.Int) (word_is word.Int) (Only kind.Int) TextOr d (λ r. Ok (kind.Int, r)) _ (pure_reader S d kind.Int) text_or
     (bars S TextOr _ (is_word word.Int) text_or_begins (λ t e f. elim f [ inl num ↦ two_words word.Int word.Num t refl e num | inr text ↦ two_words word.Int word.Text t refl e text ])))
 
 -- what may not follow a column
@@ -84,17 +84,17 @@ nullable_reader d =
     (symbol_reader NotNext symbol.Null refl _ d _ (λ _. pure_reader NotNext d false)) (λ t e. e)
 
 -- column = name kind [ NOT NULL ]
-column_behind_reader : (name : Token) (d : ℕ)
+column_after_reader : (name : Token) (d : ℕ)
     → Reader {A = ColumnText} NotNext (λ _ _ next. IsKind (λ kind. IsNullable (λ nullable. next (record { name = named name; kind = kind; nullable = nullable })))) d
     (λ ts. kind_at ts >>= λ kind. nullable_at kind.1 >>= λ nullable. Ok (record { name = named name; kind = kind.0; nullable = nullable.0 }, nullable.1))
-column_behind_reader name d =
+column_after_reader name d =
     then_reader NotNext Nothing (λ _ _. IsKind) (λ kind _ _ next. IsNullable (λ nullable. next (record { name = named name; kind = kind; nullable = nullable }))) d kind_at _ (kind_reader Nothing d)
     (λ kind. map_reader NotNext (λ _ _. IsNullable) (λ nullable. record { name = named name; kind = kind; nullable = nullable }) d nullable_at (nullable_reader d))
     (λ a d' g next avoids t ts s h. s)
 
 column_reader : (names : Token → Bool) (t₀ : Token) → names t₀ ≡ true → (d : ℕ) → Reader NotNext (λ _ _. IsColumn names) d (column_at names)
 unfolding column_at
-column_reader names t₀ e₀ d = token_reader NotNext names t₀ e₀ _ d _ (λ name. column_behind_reader name d)
+column_reader names t₀ e₀ d = token_reader NotNext names t₀ e₀ _ d _ (λ name. column_after_reader name d)
 
 -- list = "(" name { "," name } ")"
 abbrev CommaNext : Token → Type 0
@@ -215,7 +215,7 @@ unfolding same_symbol
 entries d = record {
   reads = column_reader (is symbol.Name) (sample symbol.Name) (sample_is symbol.Name refl) d;
   first = column_begins;
-  began = λ t e. token_began (is symbol.Name) t e d (column_behind_reader t d).able;
+  began = λ t e. token_began (is symbol.Name) t e d (column_after_reader t d).able;
   tails = λ columns. clauses_tail columns d;
   able = λ columns. (body_tail_reader _ _ d _ (clauses_tail columns d)).able;
   apart = clause_no_name;

@@ -32,7 +32,7 @@ abbrev pub may_be_null : Option ColumnText → Bool
 may_be_null None = false
 may_be_null (Some column) = column.nullable
 
--- what is wrong with a name that stands behind these: one of them has it, it is no column or one of them has it, or its column is nullable
+-- what is wrong with a name that stands after these: one of them has it, it is no column or one of them has it, or its column is nullable
 abbrev pub is_faulty : {A : Type 0} → (A → PlacedName) → Fault → List ColumnText → List A → PlacedName → Bool
 is_faulty name_of fault.Repeated columns before name = has name_of before name.text
 is_faulty name_of fault.NoNewColumn columns before name = not (has name_of_column columns name.text) || has name_of before name.text

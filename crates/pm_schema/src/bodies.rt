@@ -7,8 +7,8 @@ ghost use Rattle.pm_schema.specs.Reading.{num_at, kind_at, nullable_at, column_a
 use crate::terminals::{SchemaTerminal, Word};
 use crate::tree::{Body, ColumnText, ColumnTexts, ReferenceText, ReferenceTexts};
 use pm_grammar::{
-    Entry, PlacedName, PlacedNames, SynBad, Terminal, after, further, further_while, list, name,
-    placed, token,
+    Entry, PlacedName, PlacedNames, SynBad, Terminal, further, further_while, list, name, placed,
+    strip_terminal, token,
 };
 use pm_lexer::{Symbol, Token};
 use pm_values::{Kind, MOST_COLUMNS, MOST_KEY_COLUMNS, MOST_REFERENCES};
@@ -41,10 +41,10 @@ fn num(tokens: &[Token]) -> Result<(Kind, &[Token]), SynBad>
 fn kind(tokens: &[Token]) -> Result<(Kind, &[Token]), SynBad>
     ensures { Gives (λ x. (x.0, x.1.now)) result (kind_at tokens.now) }
 {
-    if let Some(rest) = after(Word::Int, tokens) {
+    if let Some(rest) = strip_terminal(Word::Int, tokens) {
         return Ok((Kind::Int, rest));
     }
-    if let Some(rest) = after(Word::Text, tokens) {
+    if let Some(rest) = strip_terminal(Word::Text, tokens) {
         return Ok((Kind::Text, rest));
     }
     num(tokens)
@@ -55,7 +55,7 @@ fn kind(tokens: &[Token]) -> Result<(Kind, &[Token]), SynBad>
 fn nullable(tokens: &[Token]) -> Result<(bool, &[Token]), SynBad>
     ensures { Gives (λ x. (x.0, x.1.now)) result (nullable_at tokens.now) }
 {
-    if let Some(rest) = after(Symbol::Not, tokens) {
+    if let Some(rest) = strip_terminal(Symbol::Not, tokens) {
         let (_, rest) = token(Symbol::Null, rest)?;
         return Ok((false, rest));
     }
@@ -151,10 +151,10 @@ fn clause_names<T: Terminal>(
 ) -> Result<(Option<PlacedNames>, &[Token]), SynBad>
     ensures { Gives (λ x. (x.0, x.1.now)) result (clause_names_at (T.accepts word) tokens.now) }
 {
-    let Some(next) = after(Symbol::Comma, tokens) else {
+    let Some(next) = strip_terminal(Symbol::Comma, tokens) else {
         return Ok((None, tokens));
     };
-    let Some(rest) = after(word, next) else {
+    let Some(rest) = strip_terminal(word, next) else {
         return Ok((None, tokens));
     };
     let (names, rest) = names(alloc, rest)?;
@@ -218,7 +218,7 @@ fn references(
     ensures { Gives (λ x. (x.0, x.1.now)) result (references_at (stands word) tokens.now) }
 {
     let mut references = ReferenceTexts::new(alloc);
-    let Some(next) = after(Symbol::Comma, tokens) else {
+    let Some(next) = strip_terminal(Symbol::Comma, tokens) else {
         return Ok((references, tokens));
     };
     let (first, rest) = reference(alloc, word, next)?;

@@ -92,7 +92,7 @@ pub(crate) fn column_named<'a>(columns: &'a [ColumnText], text: &[u8]) -> Option
         .find(|column| column.name.text.bytes() == text)
 }
 
-// Whether a name behind these has the fault.
+// Whether a name after these has the fault.
 fn is_faulty<N: Named>(
     fault: Fault,
     columns: &[ColumnText],
@@ -172,7 +172,7 @@ pub(crate) fn check<N: Named>(
         let broken = is_faulty(fault, columns, &items[..i], name);
         found = noted(found, broken, name.at, rule);
         i += 1;
-        rest = after;
+        rest = remaining;
     }
     found
 }

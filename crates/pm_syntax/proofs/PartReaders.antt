@@ -10,7 +10,7 @@ use Rattle.pm_grammar.proofs.Phrases.{Phrase, Next, Avoids, Reader, Law, NotOthe
 use Rattle.pm_grammar.proofs.Readers.{Then, Or, Same, Under, pure_reader, then_reader, then_began, same_reader, same_began, same_law, first_law, map_reader, first_began, second_began, under_reader, under_began, first_fault, not_seen}
 use Rattle.pm_grammar.proofs.Lists.{Peek}
 use Rattle.pm_grammar.proofs.Firsts.{BeginsWith, bars}
-use Rattle.pm_grammar.proofs.Furthers.{behind_reader, list_reader}
+use Rattle.pm_grammar.proofs.Furthers.{after_reader, list_reader}
 use Rattle.pm_syntax.specs.declared.tree.Test.{Test}
 use Rattle.pm_syntax.specs.declared.tree.Test.TheVariants as test
 use Rattle.pm_syntax.specs.Terminals.{begins_test, opens}
@@ -270,9 +270,9 @@ part_reader grouped zero = record {
 part_reader grouped (suc d) =
     let r = part_reader grouped d in
     same_reader OperandEnds (PartOr grouped) (Part grouped) (suc d) _ (part_same grouped)
-    (behind_reader OperandEnds (is symbol.Not) (sample symbol.Not) (sample_is symbol.Not refl) (Under (NotPart grouped)) (ParenOr grouped) (suc d) _ _
+    (after_reader OperandEnds (is symbol.Not) (sample symbol.Not) (sample_is symbol.Not refl) (Under (NotPart grouped)) (ParenOr grouped) (suc d) _ _
     (under_reader OperandEnds (NotPart grouped) d _ (map_reader OperandEnds (Part grouped) (λ part. test.Not part) d (part_at grouped d) r))
-    (behind_reader OperandEnds (is symbol.Open) (sample symbol.Open) (sample_is symbol.Open refl) (Under (Inner grouped)) (Tests grouped) (suc d) _ (test_at grouped)
+    (after_reader OperandEnds (is symbol.Open) (sample symbol.Open) (sample_is symbol.Open refl) (Under (Inner grouped)) (Tests grouped) (suc d) _ (test_at grouped)
     (under_reader OperandEnds (Inner grouped) d _ (inner_reader grouped d r)) (tests grouped (suc d)).reads
     (bars OperandEnds (Tests grouped) OperandFirst (is symbol.Open) (test_begins grouped) (λ t e h. apart symbol.Open (symbol.Name ∷ symbol.Minus ∷ symbol.Text ∷ symbol.Null ∷ symbol.Number ∷ []) refl t e h)))
     (bars OperandEnds (ParenOr grouped) (AnyOf (symbol.Open ∷ symbol.Name ∷ symbol.Minus ∷ symbol.Text ∷ symbol.Null ∷ symbol.Number ∷ [])) (is symbol.Not) (paren_or_begins grouped)

@@ -12,7 +12,7 @@ ghost use Rattle.pm_syntax.specs.Reading.{literals_at, compare_after, null_after
 use crate::expressions::operand;
 use crate::terminals::{ComparisonSign, Opening, TestStart, comparison};
 use crate::tree::{Atom, Literal, Literals, Test, Tests};
-use pm_grammar::{SynBad, after, list, optional, place, sees, token};
+use pm_grammar::{SynBad, list, optional, place, sees, strip_terminal, token};
 use pm_lexer::{Symbol, Token};
 use pm_values::Comparison;
 use sqlite_items::Boxed;
@@ -163,7 +163,7 @@ fn test_after(
     if sees(ComparisonSign, tokens) {
         return compare_after(alloc, grouped, of, tokens);
     }
-    if let Some(rest) = after(Symbol::Is, tokens) {
+    if let Some(rest) = strip_terminal(Symbol::Is, tokens) {
         return null_after(of, rest);
     }
     let (negation, rest) = optional(Symbol::Not, tokens);
@@ -228,7 +228,7 @@ fn part(
     if depth == 0 {
         return Err(SynBad::TooDeep(place(tokens)));
     }
-    if let Some(inner) = after(Symbol::Not, tokens) {
+    if let Some(inner) = strip_terminal(Symbol::Not, tokens) {
         let (part, rest) = part(alloc, grouped, depth - 1, inner)?;
         let part = Boxed::new(alloc, part)?;
         return Ok((Test::Not(part), rest));
@@ -286,12 +286,18 @@ fn more_parts(
     ensures { Gives (λ x. (x.0, x.1.now)) result (more_at (is symbol.And) (token_at (is symbol.And)) (part_peek depth) (λ _. part_at grouped depth) 256 (length rest.entry.now) members rest.entry.now) }
 {
     'parts: for _ in 0..rest.len() {
-        let Some(next) = after(Symbol::And, rest) else {
+        let Some(next) = strip_terminal(Symbol::And, rest) else {
             return Ok((members, rest));
         };
-        let (member, after) = and_member(alloc, grouped, depth, members.len() >= MEMBERS, next)?;
+        let (member, remaining) = and_member(
+            alloc,
+            grouped,
+            depth,
+            members.len() >= MEMBERS,
+            next,
+        )?;
         members.push(member)?;
-        rest = after;
+        rest = remaining;
     }
     Ok((members, rest))
 }
@@ -343,12 +349,12 @@ fn more_ands(
     ensures { Gives (λ x. (x.0, x.1.now)) result (more_at (is symbol.Or) (token_at (is symbol.Or)) (part_peek depth) (λ _. ands_at (part_peek depth) (part_at grouped depth)) 256 (length rest.entry.now) members rest.entry.now) }
 {
     'ands: for _ in 0..rest.len() {
-        let Some(next) = after(Symbol::Or, rest) else {
+        let Some(next) = strip_terminal(Symbol::Or, rest) else {
             return Ok((members, rest));
         };
-        let (member, after) = or_member(alloc, grouped, depth, members.len() >= MEMBERS, next)?;
+        let (member, remaining) = or_member(alloc, grouped, depth, members.len() >= MEMBERS, next)?;
         members.push(member)?;
-        rest = after;
+        rest = remaining;
     }
     Ok((members, rest))
 }

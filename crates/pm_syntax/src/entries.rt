@@ -8,7 +8,7 @@ ghost use Rattle.pm_syntax.specs.Reading.{given_at, item_at, direction_at, key_a
 use crate::expressions::{column, expr, literal};
 use crate::terminals::LiteralStart;
 use crate::tree::{ColumnName, Item, Literal, OrderItem};
-use pm_grammar::{Entry, PlacedName, SynBad, after, name, sees, token};
+use pm_grammar::{Entry, PlacedName, SynBad, name, sees, strip_terminal, token};
 use pm_lexer::{Symbol, Token};
 use std::alloc::Global;
 
@@ -39,7 +39,7 @@ pub(crate) fn given(
 ) -> Result<(Option<PlacedName>, &[Token]), SynBad>
     ensures { Gives (λ x. (x.0, x.1.now)) result (given_at tokens.now) }
 {
-    if let Some(rest) = after(Symbol::As, tokens) {
+    if let Some(rest) = strip_terminal(Symbol::As, tokens) {
         let (given, rest) = name(alloc, Symbol::Name, rest)?;
         return Ok((Some(given), rest));
     }
@@ -84,10 +84,10 @@ impl Entry for Item {
 fn direction(tokens: &[Token]) -> (bool, &[Token])
     ensures { direction_at tokens.now ≡ Ok (result.0, result.1.now) }
 {
-    if let Some(rest) = after(Symbol::Desc, tokens) {
+    if let Some(rest) = strip_terminal(Symbol::Desc, tokens) {
         return (true, rest);
     }
-    if let Some(rest) = after(Symbol::Asc, tokens) {
+    if let Some(rest) = strip_terminal(Symbol::Asc, tokens) {
         return (false, rest);
     }
     (false, tokens)

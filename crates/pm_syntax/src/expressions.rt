@@ -8,7 +8,7 @@ ghost use Rattle.pm_syntax.specs.Reading.{column_after, column_at, call_after, e
 use crate::numbers::number;
 use crate::terminals::func;
 use crate::tree::{Atom, ColumnName, Expr, Func, Literal};
-use pm_grammar::{PlacedName, SynBad, after, name, placed, sees, token};
+use pm_grammar::{PlacedName, SynBad, name, placed, sees, strip_terminal, token};
 use pm_lexer::{Symbol, Token, content};
 use std::alloc::Global;
 
@@ -21,7 +21,7 @@ fn column_after(
 ) -> Result<(ColumnName, &[Token]), SynBad>
     ensures { Gives (λ x. (x.0, x.1.now)) result (column_after first tokens.now) }
 {
-    let Some(rest) = after(Symbol::Point, tokens) else {
+    let Some(rest) = strip_terminal(Symbol::Point, tokens) else {
         let column = ColumnName {
             alias: None,
             name: first,
@@ -58,7 +58,7 @@ fn call_after<'a>(
 {
     let at = first.at;
     if func == Func::Count {
-        if let Some(rest) = after(Symbol::Star, tokens) {
+        if let Some(rest) = strip_terminal(Symbol::Star, tokens) {
             let (_, rest) = token(Symbol::Close, rest)?;
             return Ok((Expr::CountAll { at }, rest));
         }
@@ -78,7 +78,7 @@ fn expr_after<'a>(
     ensures { Gives (λ x. (x.0, x.1.now)) result (expr_after first.now tokens.now) }
 {
     if let Some(func) = func(first) {
-        if let Some(rest) = after(Symbol::Open, tokens) {
+        if let Some(rest) = strip_terminal(Symbol::Open, tokens) {
             return call_after(alloc, first, func, rest);
         }
     }
@@ -101,7 +101,7 @@ pub(crate) fn expr(alloc: Global, tokens: &[Token]) -> Result<(Expr, &[Token]), 
 pub(crate) fn literal(alloc: Global, tokens: &[Token]) -> Result<(Literal, &[Token]), SynBad>
     ensures { Gives (λ x. (x.0, x.1.now)) result (literal_at tokens.now) }
 {
-    if let Some(rest) = after(Symbol::Minus, tokens) {
+    if let Some(rest) = strip_terminal(Symbol::Minus, tokens) {
         let (digits, rest) = token(Symbol::Number, rest)?;
         let found = number(digits, true);
         return Ok((found, rest));
@@ -111,7 +111,7 @@ pub(crate) fn literal(alloc: Global, tokens: &[Token]) -> Result<(Literal, &[Tok
         let text = content(alloc, quoted)?;
         return Ok((Literal::Text(text), rest));
     }
-    if let Some(rest) = after(Symbol::Null, tokens) {
+    if let Some(rest) = strip_terminal(Symbol::Null, tokens) {
         return Ok((Literal::Null, rest));
     }
     let (digits, rest) = token(Symbol::Number, tokens)?;

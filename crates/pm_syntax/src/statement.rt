@@ -18,7 +18,9 @@ use crate::tree::{
     ColumnName, ColumnNames, Item, Items, Link, OrderItem, OrderItems, Select, Source, Sources,
     Test,
 };
-use pm_grammar::{Series, SynBad, after, further_series, list, name, optional, sees, token};
+use pm_grammar::{
+    Series, SynBad, further_series, list, name, optional, sees, strip_terminal, token,
+};
 use pm_lexer::{Symbol, Token, Tokens};
 use std::alloc::Global;
 
@@ -47,14 +49,14 @@ fn items(alloc: Global, tokens: &[Token]) -> Result<(Items, &[Token]), SynBad>
 fn link(tokens: &[Token]) -> Result<(Link, &[Token]), SynBad>
     ensures { Gives (λ x. (x.0, x.1.now)) result (link_at tokens.now) }
 {
-    if let Some(rest) = after(Symbol::Comma, tokens) {
+    if let Some(rest) = strip_terminal(Symbol::Comma, tokens) {
         return Ok((Link::Comma, rest));
     }
-    if let Some(rest) = after(Symbol::Inner, tokens) {
+    if let Some(rest) = strip_terminal(Symbol::Inner, tokens) {
         let (_, rest) = token(Symbol::Join, rest)?;
         return Ok((Link::Join, rest));
     }
-    if let Some(rest) = after(Symbol::Left, tokens) {
+    if let Some(rest) = strip_terminal(Symbol::Left, tokens) {
         let (_, rest) = optional(Symbol::Outer, rest);
         let (_, rest) = token(Symbol::Join, rest)?;
         return Ok((Link::LeftJoin, rest));
@@ -155,7 +157,7 @@ fn sources(alloc: Global, tokens: &[Token]) -> Result<(Sources, &[Token]), SynBa
 fn filter(alloc: Global, tokens: &[Token]) -> Result<(Option<Test>, &[Token]), SynBad>
     ensures { Gives (λ x. (x.0, x.1.now)) result (where_at 32 tokens.now) }
 {
-    let Some(rest) = after(Symbol::Where, tokens) else {
+    let Some(rest) = strip_terminal(Symbol::Where, tokens) else {
         return Ok((None, tokens));
     };
     let (cond, rest) = condition(alloc, false, OPEN, rest)?;
@@ -167,7 +169,7 @@ fn filter(alloc: Global, tokens: &[Token]) -> Result<(Option<Test>, &[Token]), S
 fn groups(alloc: Global, tokens: &[Token]) -> Result<(ColumnNames, &[Token]), SynBad>
     ensures { Gives (λ x. (x.0, x.1.now)) result (groups_at tokens.now) }
 {
-    let Some(rest) = after(Symbol::Group, tokens) else {
+    let Some(rest) = strip_terminal(Symbol::Group, tokens) else {
         return Ok((ColumnNames::new(alloc), tokens));
     };
     let (_, rest) = token(Symbol::By, rest)?;
@@ -179,7 +181,7 @@ fn groups(alloc: Global, tokens: &[Token]) -> Result<(ColumnNames, &[Token]), Sy
 fn having(alloc: Global, tokens: &[Token]) -> Result<(Option<Test>, &[Token]), SynBad>
     ensures { Gives (λ x. (x.0, x.1.now)) result (having_at 32 tokens.now) }
 {
-    let Some(rest) = after(Symbol::Having, tokens) else {
+    let Some(rest) = strip_terminal(Symbol::Having, tokens) else {
         return Ok((None, tokens));
     };
     let (cond, rest) = condition(alloc, true, OPEN, rest)?;
@@ -191,7 +193,7 @@ fn having(alloc: Global, tokens: &[Token]) -> Result<(Option<Test>, &[Token]), S
 fn orders(alloc: Global, tokens: &[Token]) -> Result<(OrderItems, &[Token]), SynBad>
     ensures { Gives (λ x. (x.0, x.1.now)) result (orders_at tokens.now) }
 {
-    let Some(rest) = after(Symbol::Order, tokens) else {
+    let Some(rest) = strip_terminal(Symbol::Order, tokens) else {
         return Ok((OrderItems::new(alloc), tokens));
     };
     let (_, rest) = token(Symbol::By, rest)?;

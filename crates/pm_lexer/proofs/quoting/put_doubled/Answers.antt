@@ -1,11 +1,11 @@
 use Rattle.std.proofs.Common.{rules, ◌++◌, sym, ◌∙◌, ap, refl, string_bytes}
-use Rattle.pm_lexer.proofs.QuoteEnds.{boundary_behind_quote}
+use Rattle.pm_lexer.proofs.QuoteEnds.{boundary_after_quote}
 use Rattle.pm_lexer.proofs.Doubling.{doubled_more, doubled_none}
 use Rattle.pm_lexer.proofs.quoting.put_doubled.Goals as goal
 
 pub split_at-requires : goal.split_at-requires
 split_at-requires c =
-    boundary_behind_quote c.args.quote c.pieces.rest.now c.in-Some.at c.requires c.pieces.invariant.is_text (rw c.as_bytes.ensures.value at c.in-Some.ensures)
+    boundary_after_quote c.args.quote c.pieces.rest.now c.in-Some.at c.requires c.pieces.invariant.is_text (rw c.as_bytes.ensures.value at c.in-Some.ensures)
 
 pub pieces-preserved : goal.pieces-preserved
 pieces-preserved c =

@@ -1,19 +1,19 @@
 use Rattle.std.proofs.Common.{rules, ◌≡◌, ◌++◌, sym, ◌∙◌, ap, refl, string_bytes}
 use Rattle.pm_lexer.specs.Pieces.{single_quotes}
-use Rattle.pm_lexer.proofs.QuoteEnds.{boundary_behind_quote, singled_more, unquoted}
+use Rattle.pm_lexer.proofs.QuoteEnds.{boundary_after_quote, singled_more, unquoted}
 use Rattle.pm_lexer.proofs.unquote.single_quotes.Goals as goal
 
 pub split_at-requires : goal.split_at-requires
 split_at-requires c =
-    boundary_behind_quote c.args.quote c.pieces.rest.now c.in-Some.at c.requires c.pieces.invariant.is_text (rw c.as_bytes.ensures.value at c.in-Some.ensures)
+    boundary_after_quote c.args.quote c.pieces.rest.now c.in-Some.at c.requires c.pieces.invariant.is_text (rw c.as_bytes.ensures.value at c.in-Some.ensures)
 
 pub pieces-preserved : goal.pieces-preserved
 pieces-preserved c =
     let first = rw c.as_bytes.ensures.value at c.in-Some.ensures in
     record {
-      is_text = search (rules, c.behind_quote-rest.utf8);
+      is_text = search (rules, c.after_quote-rest.utf8);
       read = c.pieces.invariant.read ∙ singled_more c.args.quote _ c.pieces.rest.now c.in-Some.at first
-          ∙ rw (c.in_ok-push_str-in-Some.ensures.bytes, c.split_at.ensures.front, c.behind_quote-rest.ensures, c.split_at.ensures.back) refl;
+          ∙ rw (c.in_ok-push_str-in-Some.ensures.bytes, c.split_at.ensures.front, c.after_quote-rest.ensures, c.split_at.ensures.back) refl;
     }
 
 pub returns-in-None : goal.returns-in-None

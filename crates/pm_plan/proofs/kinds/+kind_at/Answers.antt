@@ -65,9 +65,9 @@ returns-then-column-left t c =
 
 pub returns-else-column-left : goal.returns-else-column-left
 returns-else-column-left t c =
-    λ p h. let s : Sides c.args.nodes.now p c.args.n c.after.result = elim c.in-Join.is [
-      | inl w ↦ join_sides _ p _ _ _ _ _ _ c.after.ensures (begins _ p _ _ _ w.4 c.in_ok-root.ensures.node h)
-      | inr w ↦ index_sides _ p _ _ _ _ _ c.after.ensures (begins _ p _ _ _ w.2 c.in_ok-root.ensures.node h)
+    λ p h. let s : Sides c.args.nodes.now p c.args.n c.number_after.result = elim c.in-Join.is [
+      | inl w ↦ join_sides _ p _ _ _ _ _ _ c.number_after.ensures (begins _ p _ _ _ w.4 c.in_ok-root.ensures.node h)
+      | inr w ↦ index_sides _ p _ _ _ _ _ c.number_after.ensures (begins _ p _ _ _ w.2 c.in_ok-root.ensures.node h)
     ] in
     let e = ap (λ kinds. slice_get kinds c.args.column) (s.kinds c.args.decls.now) in
     let a = c.width_at-left.ensures.value (Rooted s.left_tree) s.left_stands in

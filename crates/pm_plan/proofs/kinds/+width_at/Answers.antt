@@ -29,9 +29,9 @@ returns-in-Over-clause-value t c =
 
 pub returns-in-Join-clause-value : goal.returns-in-Join-clause-value
 returns-in-Join-clause-value t c =
-    λ p h. let s : Sides c.args.nodes.now p c.args.n c.after.result = elim c.in-Join.is [
-      | inl w ↦ join_sides _ p _ _ _ _ _ _ c.after.ensures (begins _ p _ _ _ w.4 c.in-Some.ensures.node h)
-      | inr w ↦ index_sides _ p _ _ _ _ _ c.after.ensures (begins _ p _ _ _ w.2 c.in-Some.ensures.node h)
+    λ p h. let s : Sides c.args.nodes.now p c.args.n c.number_after.result = elim c.in-Join.is [
+      | inl w ↦ join_sides _ p _ _ _ _ _ _ c.number_after.ensures (begins _ p _ _ _ w.4 c.in-Some.ensures.node h)
+      | inr w ↦ index_sides _ p _ _ _ _ _ c.number_after.ensures (begins _ p _ _ _ w.2 c.in-Some.ensures.node h)
     ] in
     let e = ap length (s.kinds c.args.decls.now) in
     let j = length-append (kinds_of c.args.decls.now s.left_tree) (subplan_kinds c.args.decls.now s.right_part) in

@@ -4,7 +4,7 @@ use Rattle.pm_plan.specs.Preorder.{Rooted}
 use Rattle.pm_plan.specs.Kinds.{width}
 use Rattle.pm_plan.specs.References.{entries, padded_if}
 use Rattle.pm_plan.specs.Fitting.{unpadded}
-use Rattle.pm_plan.specs.Standing.{method_of}
+use Rattle.pm_plan.specs.Roots.{method_of}
 use Rattle.pm_plan.proofs.Inversion.{OverOne, OverTwo, OverSeek, begins, none_stands, no_seek, rooted_same, right_at, seek_at}
 use Rattle.pm_plan.proofs.Referring.{refers_to-cut, any_refers, one_refers, any_refers-append, any_refers-padded}
 use Rattle.pm_plan.proofs.Tests.{or_true, or_false, and_true, and_false}
@@ -63,7 +63,7 @@ returns-then-not-pads t c =
     let pad = pads (method_of c.in-Join.method) in
     let right = entries decls i.right_tree (first + width decls i.left_tree) in
     let wide = c.width_at.ensures.value (Rooted i.left_tree) i.left_stands in
-    let there = c.refers_at-then-not-pads.ensures i.right_tree (first + width decls i.left_tree) (right_at _ _ _ _ _ _ _ _ i c.after.ensures)
+    let there = c.refers_at-then-not-pads.ensures i.right_tree (first + width decls i.left_tree) (right_at _ _ _ _ _ _ _ _ i c.number_after.ensures)
     (omega (arith, c.capped_sum-next.ensures, wide, e)) small in
     let found = and_true (ap not c.pads.ensures) (ap not c.if-not-pads.true) there refl in
     or_false (c.refers_at-in-Join.ensures i.left_tree first i.left_stands e small) c.if-refers_at.false (found ∙ sym (any_refers-padded decls target pairs pad right))
@@ -102,7 +102,7 @@ returns-else-refers_at-2 t c =
     let i : OverSeek _ _ _ _ _ _ = begins _ (Rooted u) _ _ _ c.in-Index.is c.in-Some.ensures.node h in
     let next = first + width decls i.left_tree in
     let wide = c.width_at-in-Index.ensures.value (Rooted i.left_tree) i.left_stands in
-    let found = c.seek_refers.ensures i.sought (c.args.n + 1) (seek_at _ _ _ _ _ _ _ i c.after-in-Index.ensures)
+    let found = c.seek_refers.ensures i.sought (c.args.n + 1) (seek_at _ _ _ _ _ _ _ i c.number_after-in-Index.ensures)
     ∙ refers_to-cut decls 4294967296 target i.sought.table _ next pairs (omega (arith, c.capped_sum-next-in-Index.ensures, wide, e)) small
     ∙ one_refers decls target pairs (unpadded i.sought.table next) in
     or_false (c.refers_at-in-Index.ensures i.left_tree first i.left_stands e small) c.if-refers_at-2.false found

@@ -29,7 +29,7 @@ returns-then-has_group t c =
 pub returns-else-has_group : goal.returns-else-has_group
 returns-else-has_group t c =
     λ t h. let i : OverTwo _ _ _ _ _ _ _ = begins _ (Rooted t) _ _ _ c.in-Join.is c.in-Some.ensures.node h in
-    let right = c.has_group-else-has_group.ensures i.right_tree (right_at _ _ _ _ _ _ _ _ i c.after.ensures) in
+    let right = c.has_group-else-has_group.ensures i.right_tree (right_at _ _ _ _ _ _ _ _ i c.number_after.ensures) in
     or_false (c.has_group-in-Join.ensures i.left_tree i.left_stands) c.if-has_group.false right (ap has_group (rooted_same i.is))
 
 pub returns-in-Index : goal.returns-in-Index

@@ -29,7 +29,7 @@ returns-else-is_joinable t c =
 pub returns-then-is_joinable : goal.returns-then-is_joinable
 returns-then-is_joinable t c =
     λ t h. let i : OverTwo _ _ _ _ _ _ _ = begins _ (Rooted t) _ _ _ c.in-Join.is c.in-Some.ensures.node h in
-    let right = c.is_joinable-then-is_joinable.ensures i.right_tree (right_at _ _ _ _ _ _ _ _ i c.after.ensures) in
+    let right = c.is_joinable-then-is_joinable.ensures i.right_tree (right_at _ _ _ _ _ _ _ _ i c.number_after.ensures) in
     and_true (c.is_joinable-in-Join.ensures i.left_tree i.left_stands) c.if-is_joinable.true right (ap is_joinable (rooted_same i.is))
 
 pub returns-in-Index : goal.returns-in-Index

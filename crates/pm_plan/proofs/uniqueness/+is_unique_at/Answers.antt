@@ -42,7 +42,7 @@ returns-then-is_unique_at t c =
     λ p columns h same. let decls = c.args.decls.now in
     let i : OverTwo _ _ _ _ _ _ _ = begins _ p _ _ _ c.in-Join.is c.in-Some.ensures.node h in
     let own = c.in-Join.own.now in
-    let right = c.is_unique_at-in-Join.ensures (Rooted i.right_tree) (right_columns own) (right_at _ _ _ _ _ _ _ _ i c.after.ensures)
+    let right = c.is_unique_at-in-Join.ensures (Rooted i.right_tree) (right_columns own) (right_at _ _ _ _ _ _ _ _ i c.number_after.ensures)
     (ap (λ s. left_part (width decls i.right_tree) (right_columns s)) (sym c.as_slice.ensures)) in
     let wide = ap (subplan_width decls) i.is in
     let more = length-append (kinds_of decls i.left_tree) (kinds_of decls i.right_tree) in
@@ -54,7 +54,7 @@ returns-else-is_unique_at t c =
     λ p columns h same. let decls = c.args.decls.now in
     let i : OverTwo _ _ _ _ _ _ _ = begins _ p _ _ _ c.in-Join.is c.in-Some.ensures.node h in
     let own = c.in-Join.own.now in
-    let right = c.is_unique_at-in-Join.ensures (Rooted i.right_tree) (right_columns own) (right_at _ _ _ _ _ _ _ _ i c.after.ensures)
+    let right = c.is_unique_at-in-Join.ensures (Rooted i.right_tree) (right_columns own) (right_at _ _ _ _ _ _ _ _ i c.number_after.ensures)
     (ap (λ s. left_part (width decls i.right_tree) (right_columns s)) (sym c.as_slice.ensures)) in
     and_false _ right c.if-is_unique_at.false (ap (λ q. subplan_unique decls q columns) i.is)
 
@@ -62,7 +62,7 @@ pub returns-then-is_seek_unique : goal.returns-then-is_seek_unique
 returns-then-is_seek_unique t c =
     λ p columns h same. let decls = c.args.decls.now in
     let i : OverSeek _ _ _ _ _ _ = begins _ p _ _ _ c.in-Index.is c.in-Some.ensures.node h in
-    let right = c.is_seek_unique.ensures i.sought (c.args.n + 1) (seek_at _ _ _ _ _ _ _ i c.after-in-Index.ensures) in
+    let right = c.is_seek_unique.ensures i.sought (c.args.n + 1) (seek_at _ _ _ _ _ _ _ i c.number_after-in-Index.ensures) in
     let wide = ap (subplan_width decls) i.is in
     let more = length-append (kinds_of decls i.left_tree) (table_kinds decls i.sought.table) in
     let left = c.is_unique_at-then-is_seek_unique.ensures (Rooted i.left_tree) (left_part (width decls i.left_tree) columns) i.left_stands (agree_left _ _ columns _ (omega arith) same) in
@@ -72,5 +72,5 @@ pub returns-else-is_seek_unique : goal.returns-else-is_seek_unique
 returns-else-is_seek_unique t c =
     λ p columns h same. let decls = c.args.decls.now in
     let i : OverSeek _ _ _ _ _ _ = begins _ p _ _ _ c.in-Index.is c.in-Some.ensures.node h in
-    let right = c.is_seek_unique.ensures i.sought (c.args.n + 1) (seek_at _ _ _ _ _ _ _ i c.after-in-Index.ensures) in
+    let right = c.is_seek_unique.ensures i.sought (c.args.n + 1) (seek_at _ _ _ _ _ _ _ i c.number_after-in-Index.ensures) in
     and_false _ right c.if-is_seek_unique.false (ap (λ q. subplan_unique decls q columns) i.is)

@@ -5,7 +5,7 @@ use Rattle.std.specs.List.{list_all}
 use Rattle.pm_plan.specs.Preorder.{Rooted}
 use Rattle.pm_plan.specs.Kinds.{kinds_of, width}
 use Rattle.pm_plan.specs.Valid.{has_group, are_below, IsValidOver}
-use Rattle.pm_plan.specs.Standing.{unary_of}
+use Rattle.pm_plan.specs.Roots.{unary_of}
 use Rattle.pm_plan.proofs.valid.is_valid_over.Goals as goal
 
 pub returns-in-Filter : goal.returns-in-Filter

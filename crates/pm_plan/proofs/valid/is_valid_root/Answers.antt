@@ -30,7 +30,7 @@ pub returns-else-not-is_joinable : goal.returns-else-not-is_joinable
 returns-else-not-is_joinable c =
     λ t h. let i : OverSeek _ _ _ _ _ _ = begins _ (Rooted t) _ _ _ c.in-Index.is c.in-Some.ensures.node h in
     let fit = c.condition_fits_if.ensures (Rooted t) h ∙ ap (λ (v : Tree). condition_fits_if (kinds_of c.args.decls.now v) c.in-Index.cond.now) (rooted_same i.is) in
-    let seek = c.is_valid_seek.ensures i.left_tree i.sought (c.args.n + 1) i.left_stands (seek_at _ _ _ _ _ _ _ i c.after.ensures) in
+    let seek = c.is_valid_seek.ensures i.left_tree i.sought (c.args.n + 1) i.left_stands (seek_at _ _ _ _ _ _ _ i c.number_after.ensures) in
     at_root _ t _ _ (rooted_same i.is) (
       λ yes. (record { fits = sym fit ∙ c.if-not-condition_fits_if.false; joinable = sym (c.is_joinable.ensures i.left_tree i.left_stands) ∙ c.if-not-is_joinable.false }, seek.0 yes),
       λ w. seek.1 w.1,
