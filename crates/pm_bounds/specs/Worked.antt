@@ -31,6 +31,12 @@ customers_with method =
     Over (Project (1 ∷ 4 ∷ []))
     (Join method (on (pair 0 1) (flags true false)) (Scan 0 (label (codes "cust") (codes "c"))) (Scan 1 (label (codes "ord") (codes "o"))))
 
+-- SELECT c.name, o.amt FROM ord o JOIN cust c ON o.cust = c.id, where no reference says that an order's customer is there
+abbrev pub unreferenced_join : Tree
+unreferenced_join =
+    Over (Project (4 ∷ 2 ∷ []))
+    (Join (Hash false) (on (pair 1 0) (flags false true)) (Scan 0 (label (codes "ord") (codes "o"))) (Scan 1 (label (codes "cust") (codes "c"))))
+
 abbrev pub customers_looked_up : Tree
 customers_looked_up =
     Over (Project (1 ∷ 4 ∷ []))

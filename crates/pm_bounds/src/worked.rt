@@ -7,7 +7,7 @@ ghost use Rattle.pm_work.specs.First.{first_bound};
 ghost use Rattle.pm_work.specs.Fits.{sizes_of};
 ghost use Rattle.pm_work.specs.Worked.{grouped_rows, hashed, sought_rows, merged_rows, counted, customers_from_two, keyless_join, total_join, padded_join};
 ghost use Rattle.pm_bounds.specs.Bounds.{bounds_of, whole_at};
-ghost use Rattle.pm_bounds.specs.Worked.{enclosed, bound, wholes, three_rows, three, customers_with, customers_looked_up, ordered_customers_first, ordered_keyless, keyless_merge, and_table, five_tables, first_column, two_keyed};
+ghost use Rattle.pm_bounds.specs.Worked.{enclosed, bound, wholes, three_rows, three, customers_with, customers_looked_up, ordered_customers_first, ordered_keyless, keyless_merge, and_table, five_tables, first_column, two_keyed, unreferenced_join};
 
 /// Where nothing is filtered or joined, the bounds are exact from the first event on.
 pub fn exact_bounds_worked()
@@ -66,9 +66,10 @@ pub fn left_unique_bounds_worked()
     ensures { wholes customers_first (customers_with (Hash false)) (0 ∷ 5 ∷ 11 ∷ []) ≡ enclosed 0 7 15 ∷ enclosed 5 11 15 ∷ enclosed 11 13 13 ∷ [] }
 {}
 
-/// A join along a reference has at least as many rows as its left side; a left join too, and each of its left rows counts
-/// once more where it has more matches.
+/// A join along a reference has at least as many rows as its left side, where another join may have none. A left join has
+/// as many too, and each of its left rows counts once more where it has more matches.
 pub fn matched_bounds_worked()
     ensures total { wholes referring_shop total_join (0 ∷ 1 ∷ []) ≡ enclosed 0 12 12 ∷ enclosed 1 12 12 ∷ [] }
+    ensures unreferenced { wholes referring_shop unreferenced_join (0 ∷ 1 ∷ []) ≡ enclosed 0 6 12 ∷ enclosed 1 6 12 ∷ [] }
     ensures padded { wholes customers_first padded_join (0 ∷ 4 ∷ 5 ∷ []) ≡ enclosed 0 13 21 ∷ enclosed 4 13 19 ∷ enclosed 5 15 19 ∷ [] }
 {}
