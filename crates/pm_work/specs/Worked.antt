@@ -1,5 +1,6 @@
 -- plans for worked examples
 use Rattle.std.specs.Prelude.{true, false, [], ◌∷◌, None, codes}
+use Rattle.pm_values.specs.declared.table.Reference.{Reference}
 use Rattle.pm_values.specs.declared.condition.Comparison.TheVariants as comparison
 use Rattle.pm_plan.specs.declared.plan.Aggregate.TheVariants as aggregate
 use Rattle.pm_plan.specs.declared.plan.Unique.{Unique}
@@ -35,6 +36,10 @@ merged_rows = Over (Project (4 ∷ 2 ∷ [])) (Join Merge (on (pair 1 0) (flags 
 -- WHERE o.amt = 7
 abbrev pub merged_few : Tree
 merged_few = Over (Project (4 ∷ 2 ∷ [])) (Join Merge (on (pair 1 0) (flags false true)) (Over (Filter (against comparison.Equal 2 7)) scan_orders) scan_customers)
+
+-- REFERENCES (cust) TO cust (id), of ord
+abbrev pub customer_reference : Reference
+customer_reference = record { columns = 1 ∷ []; target = codes "cust"; keys = 0 ∷ [] }
 
 -- SELECT c.name, o.amt FROM ord o JOIN cust c ON o.cust = c.id, each order's customer being there
 abbrev pub total_join : Tree

@@ -1,12 +1,13 @@
 //! Worked examples of the definitions, each the contract of a function that does nothing: they are proved by computing.
-ghost use Rattle.std.specs.Prelude.{◌≡◌, [], ◌∷◌, false, codes, None, Some};
+ghost use Rattle.std.specs.Prelude.{◌≡◌, [], ◌∷◌, true, false, map, codes, None, Some};
 ghost use Rattle.pm_values.specs.declared.value.Value.TheVariants.{Null, Text};
+ghost use Rattle.pm_values.specs.References.{has_target};
 ghost use Rattle.pm_plan.specs.Outputs.{output};
 ghost use Rattle.pm_work.specs.Events.{trace};
 ghost use Rattle.pm_work.specs.Work.{whole_work, scanned_rows};
-ghost use Rattle.pm_plan.specs.Worked.{flags, number, shop, ordered_shop, no_orders, customers_alone, orders_alone, customers_first, referring_shop, few_and_many, keyless, groups};
+ghost use Rattle.pm_plan.specs.Worked.{flags, number, shop, ordered_shop, no_orders, customers_alone, orders_alone, customers_first, referring_shop, few_and_many, keyless, groups, customer_rows, order_rows, known_order_rows};
 ghost use Rattle.pm_work.specs.First.{first_sum, too_wide};
-ghost use Rattle.pm_work.specs.Worked.{hashed, sought_rows, sought_all, merged_rows, merged_few, counted, order_ids, customers_from_two, summed, looked_up, looked_up_with, keyless_join, grouped_rows, grouped_few, distinct_rows, paired_rows, total_join, padded_join};
+ghost use Rattle.pm_work.specs.Worked.{hashed, sought_rows, sought_all, merged_rows, merged_few, counted, order_ids, customers_from_two, summed, looked_up, looked_up_with, keyless_join, grouped_rows, grouped_few, distinct_rows, paired_rows, total_join, padded_join, customer_reference};
 
 /// A hash join reads its right side first, and then hands out its matches right after each row of its left side.
 pub fn hash_join_worked()
@@ -98,4 +99,10 @@ pub fn left_join_worked()
     ensures first { first_sum (3 ∷ 4 ∷ []) padded_join ≡ 21 }
     ensures narrow { too_wide (3 ∷ 4 ∷ []) padded_join ≡ None }
     ensures total { first_sum (3 ∷ 3 ∷ []) total_join ≡ 12 }
+{}
+
+/// An order whose customer is not there breaks its reference.
+pub fn references_worked()
+    ensures kept { map (has_target customer_reference customer_rows) known_order_rows ≡ true ∷ true ∷ true ∷ [] }
+    ensures broken { map (has_target customer_reference customer_rows) order_rows ≡ true ∷ true ∷ true ∷ false ∷ [] }
 {}
