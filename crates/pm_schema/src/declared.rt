@@ -48,7 +48,7 @@ fn column_numbers(
     'names: while let Some((name, after)) = first(rest) {
         let number = column_number(columns, name.text.bytes());
         numbers.push(number)?;
-        rest = remaining;
+        rest = after;
     }
     Ok(numbers)
 }
@@ -88,7 +88,7 @@ fn declared_columns(alloc: Global, columns: &[ColumnText]) -> Result<ColumnDecls
     'columns: while let Some((column, after)) = first(rest) {
         let decl = declared_column(alloc, column)?;
         decls.push(decl)?;
-        rest = remaining;
+        rest = after;
     }
     Ok(decls)
 }
@@ -137,7 +137,7 @@ fn declared_references(
     'references: while let Some((reference, after)) = first(rest) {
         let decl = declared_reference(alloc, tables, columns, reference)?;
         decls.push(decl)?;
-        rest = remaining;
+        rest = after;
     }
     Ok(decls)
 }
@@ -171,7 +171,7 @@ pub(crate) fn declared(alloc: Global, tables: &[TableText]) -> Result<TableDecls
     'tables: while let Some((table, after)) = first(rest) {
         let decl = declared_table(alloc, tables, table)?;
         decls.push(decl)?;
-        rest = remaining;
+        rest = after;
     }
     Ok(decls)
 }

@@ -33,7 +33,7 @@ pub(crate) fn marked(alloc: Global, tokens: &[Token]) -> Result<Tokens, AllocErr
     'tokens: while let Some((token, after)) = first(rest) {
         let next = marked_before(alloc, token, after)?;
         seen.push(next)?;
-        rest = remaining;
+        rest = after;
     }
     Ok(seen)
 }

@@ -73,7 +73,7 @@ fn may_all_refer(
         if !name_may_refer(columns, targets, name, key) {
             return false;
         }
-        rest = remaining;
+        rest = after;
         beside = after_key;
     }
     beside.is_empty()
@@ -163,7 +163,7 @@ fn check_references(
     'references: while let Some((reference, after)) = first(rest) {
         let target = table_named(tables, reference.target.text.bytes());
         found = check_reference(columns, reference, target, found);
-        rest = remaining;
+        rest = after;
     }
     found
 }
@@ -189,7 +189,7 @@ pub(crate) fn first_breach(tables: &[TableText]) -> Option<Breach>
     let mut rest = tables;
     'tables: while let Some((table, after)) = first(rest) {
         found = check_table(tables, table, found);
-        rest = remaining;
+        rest = after;
     }
     found
 }

@@ -172,7 +172,7 @@ pub(crate) fn check<N: Named>(
         let broken = is_faulty(fault, columns, &items[..i], name);
         found = noted(found, broken, name.at, rule);
         i += 1;
-        rest = remaining;
+        rest = after;
     }
     found
 }
