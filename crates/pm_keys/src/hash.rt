@@ -1,7 +1,6 @@
 //! The hash of a key: each value is fed to std's `FoldHasher`, which multiplies 16 bytes at a time to 128 bits.
-ghost use Rattle.std.specs.Prelude.{◌≡◌, ◌^◌, ◌<◌, length, fold};
-ghost use Rattle.std.specs.Hash.FoldHasher as folding;
-ghost use Rattle.pm_keys.specs.Hash.{fed_by, hash_of};
+ghost use Rattle.std.specs.Prelude.{◌≡◌, ◌^◌, ◌<◌, length};
+ghost use Rattle.pm_keys.specs.Hash.{after_value, hash_of};
 
 use pm_values::{Cells, Value};
 use std::hash::{FoldHasher, Hasher};
@@ -18,7 +17,7 @@ pub(crate) fn hash_of<C: Cells>(key: &C) -> u64
 }
 
 fn feed(hasher: &mut FoldHasher, value: &Value)
-    ensures { hasher.new ≡ fold folding.write hasher.old (fed_by value.now) }
+    ensures { hasher.new ≡ after_value hasher.old value.now }
 {
     match value {
         Value::Null => hasher.write_u8(0),

@@ -1,7 +1,8 @@
 //! Lists of keys that are lent value by value, and when two keys are the same.
 ghost use Rattle.std.specs.Prelude.{◌≡◌, ◌^◌, ◌<◌, [], ◌∷◌, ◌++◌, length, get_or, All, OnOk, OnErr};
 ghost use Rattle.pm_values.specs.Row.{cell};
-ghost use Rattle.pm_values.specs.Equality.{same_values};
+ghost use Rattle.pm_values.specs.Order.{value_cmp};
+ghost use Rattle.pm_values.specs.Equality.{is_equal, same_values};
 ghost use Rattle.pm_keys.specs.Numbers.{HasWidth};
 
 use pm_values::{Cells, Value, compare};
@@ -50,14 +51,14 @@ pub struct LentKey<'a, L: Keys> {
 }
 
 impl<'a, L: Keys> Model for LentKey<'a, L> {
-    ghost use Rattle.std.specs.Prelude.{◌<◌, [], length, get_or};
+    ghost use Rattle.std.specs.Prelude.{◌≡◌, ◌<◌, [], length, get_or};
     ghost use Rattle.pm_values.specs.Row.{Row};
 
     ghost Value = { Row };
 
     ghost view = { λ k. get_or (L.keys k.keys.now) k.number [] };
 
-    ghost invariant = { λ k. k.number < length (L.keys k.keys.now) };
+    ghost invariant = { λ k. (k.number < length (L.keys k.keys.now)) × (length (get_or (L.keys k.keys.now) k.number []) ≡ L.width k.keys.now) };
 }
 
 impl<'a, L: Keys> LentKey<'a, L> {
@@ -66,6 +67,7 @@ impl<'a, L: Keys> LentKey<'a, L> {
         requires { number < length (L.keys keys.now) }
         ensures { result ≡ get_or (L.keys keys.now) number [] }
     {
+        let _width = keys.width();
         LentKey { keys, number }
     }
 }
@@ -89,9 +91,15 @@ pub fn same_values<A: Cells, B: Cells>(a: &A, b: &B) -> bool
     ensures { result ≡ same_values (A.cells a.now) (B.cells b.now) }
 {
     for at in 0..a.width() {
-        if compare(a.cell(at), b.cell(at)) != Ordering::Equal {
+        if !same_value(a.cell(at), b.cell(at)) {
             return false;
         }
     }
     true
+}
+
+fn same_value(a: &Value, b: &Value) -> bool
+    ensures { result ≡ is_equal (value_cmp a.now b.now) }
+{
+    compare(a, b) == Ordering::Equal
 }

@@ -1,6 +1,7 @@
 //! The numbers of keys that something else keeps.
 ghost use Rattle.std.specs.Prelude.{◌≡◌, ◌≢◌, ◌-◌, ◌<◌, ◌^◌, [], length, AllPairs, Some, IfOk, OnOk, OnErr};
 ghost use Rattle.pm_keys.specs.Numbers.{entered, number_of};
+ghost use Rattle.pm_keys.specs.Hash.{hash_of};
 ghost use Rattle.pm_keys.specs.Chains.{link_number};
 
 use crate::hash::hash_of;
@@ -69,7 +70,15 @@ impl<L: Keys> KeyNumbers<L> {
         ensures { result ≡ number_of (C.cells key.now) (L.keys self.now) }
     {
         let _width = self.keys.width();
-        let hash = hash_of(key);
+        self.look_up(key, hash_of(key))
+    }
+
+    fn look_up<C: Cells>(&self, key: &C, hash: u64) -> Option<u32>
+        requires wide { length (C.cells key.now) ≡ L.width self.now }
+        requires hash { hash ≡ hash_of (C.cells key.now) }
+        ensures { result ≡ number_of (C.cells key.now) (L.keys self.now) }
+    {
+        let _width = self.keys.width();
         let mut next = self.last.get(&hash).copied();
         while let Some(number) = next {
             if same_values(key, &LentKey::new(&self.keys, number)) {
@@ -92,14 +101,16 @@ impl<L: Keys> KeyNumbers<L> {
         ensures width { L.width self.new ≡ L.width self.old }
         ensures err { OnErr result (self.new ≡ self.old) }
     {
-        if let Some(number) = self.find(key) {
+        let _width = self.keys.width();
+        let hash = hash_of(key);
+        if let Some(number) = self.look_up(key, hash) {
             return Ok(number);
         }
         self.last.reserve(1)?;
         self.links.reserve(1)?;
         self.keys.keep(key)?;
         let number = self.links.len() as u32;
-        let before = self.last.insert(hash_of(key), number).unwrap();
+        let before = self.last.insert(hash, number).unwrap();
         self.links.push(before.unwrap_or(NONE)).unwrap();
         Ok(number)
     }

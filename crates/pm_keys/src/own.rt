@@ -59,12 +59,16 @@ impl<C: Cells> Keep<C> for OwnKeys {
 
     fn keep(&mut self, key: &C) -> Result<(), AllocError> {
         let before = self.values.len();
-        if append_copies(*self.values.allocator(), &mut self.values, key).is_err() {
-            self.values.truncate(before);
-            return Err(AllocError);
+        match append_copies(*self.values.allocator(), &mut self.values, key) {
+            Ok(()) => {
+                self.count += 1;
+                Ok(())
+            }
+            Err(refused) => {
+                self.values.truncate(before);
+                Err(refused)
+            }
         }
-        self.count += 1;
-        Ok(())
     }
 }
 
