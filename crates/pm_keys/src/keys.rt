@@ -1,5 +1,5 @@
 //! Lists of keys that are lent value by value, and when two keys are the same.
-ghost use Rattle.std.specs.Prelude.{◌≡◌, ◌^◌, ◌<◌, [], ◌∷◌, ◌++◌, length, get_or, All, OnOk, OnErr};
+ghost use Rattle.std.specs.Prelude.{◌≡◌, ◌^◌, ◌<◌, [], length, get_or, All, OnOk, OnErr};
 ghost use Rattle.pm_values.specs.Row.{cell};
 ghost use Rattle.pm_values.specs.Order.{value_cmp};
 ghost use Rattle.pm_values.specs.Equality.{is_equal, same_values};
@@ -31,16 +31,21 @@ pub trait Keys {
         ensures { result.now ≡ cell (get_or (keys self.now) number []) at };
 }
 
-/// Keys that a further key can be put behind.
+/// Keys behind which a further key can be put.
 pub trait Keep<C: Cells>: Keys {
+    ghost use Rattle.std.specs.Prelude.{◌≡◌, [], ◌∷◌, ◌++◌};
+
     ghost can_keep: { Self → C → Type 0 };
+
+    ghost with_key: { Self → C → Self };
 
     /// Puts this key behind the others. A refusal leaves them.
     fn keep(&mut self, key: &C) -> Result<(), AllocError>
         requires { can_keep self.old key.now }
-        ensures ok { OnOk result (Self.keys self.new ≡ Self.keys self.old ++ C.cells key.now ∷ []) }
-        ensures width { Self.width self.new ≡ Self.width self.old }
+        ensures ok { OnOk result (self.new ≡ with_key self.old key.now) }
         ensures err { OnErr result (self.new ≡ self.old) };
+
+    ghost comes_last: { (k : Self) (key : C) → can_keep k key → Self.keys (with_key k key) ≡ Self.keys k ++ C.cells key ∷ [] };
 }
 
 /// One of some keys, which stays where it is.

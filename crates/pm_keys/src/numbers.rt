@@ -1,6 +1,6 @@
 //! The numbers of keys that something else keeps.
-ghost use Rattle.std.specs.Prelude.{◌≡◌, ◌≢◌, ◌-◌, ◌<◌, ◌^◌, [], length, AllPairs, Some, IfOk, OnOk, OnErr};
-ghost use Rattle.pm_keys.specs.Numbers.{entered, number_of};
+ghost use Rattle.std.specs.Prelude.{◌≡◌, ◌≢◌, ◌-◌, ◌<◌, ◌^◌, [], length, AllPairs, is_some, if◌then◌else◌, Some, IfOk, OnOk, OnErr};
+ghost use Rattle.pm_keys.specs.Numbers.{number_of};
 ghost use Rattle.pm_keys.specs.Hash.{hash_of};
 ghost use Rattle.pm_keys.specs.Chains.{link_number};
 
@@ -97,8 +97,7 @@ impl<L: Keys> KeyNumbers<L> {
         requires few { length (L.keys self.old) < 2 ^ 32 - 1 }
         requires kept { L.can_keep self.old key.now }
         ensures number { IfOk result (λ number. number_of (C.cells key.now) (L.keys self.new) ≡ Some number) }
-        ensures keys { OnOk result (L.keys self.new ≡ entered (C.cells key.now) (L.keys self.old)) }
-        ensures width { L.width self.new ≡ L.width self.old }
+        ensures keys { OnOk result (self.new ≡ (if is_some (number_of (C.cells key.now) (L.keys self.old)) then self.old else L.with_key self.old key.now)) }
         ensures err { OnErr result (self.new ≡ self.old) }
     {
         let _width = self.keys.width();

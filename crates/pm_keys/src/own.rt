@@ -53,9 +53,13 @@ impl Keys for OwnKeys {
 }
 
 impl<C: Cells> Keep<C> for OwnKeys {
-    ghost use Rattle.std.specs.Prelude.{◌≡◌, ◌-◌, ◌<◌, ◌^◌, length};
+    ghost use Rattle.std.specs.Prelude.{◌≡◌, ◌-◌, ◌<◌, ◌^◌, [], ◌∷◌, ◌++◌, length, refl};
 
     ghost can_keep = { λ k key. (length (C.cells key) ≡ k.width) × (length k.keys < 2 ^ 32 - 1) };
+
+    ghost with_key = { λ k key. record { width = k.width; keys = k.keys ++ C.cells key ∷ [] } };
+
+    ghost comes_last = { λ k key can. refl };
 
     fn keep(&mut self, key: &C) -> Result<(), AllocError> {
         let before = self.values.len();

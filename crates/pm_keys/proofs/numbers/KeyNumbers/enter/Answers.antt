@@ -26,11 +26,13 @@ invariant_of-self-2 g c =
     let before : c.unwrap-before.result ≡ last (hash_of key) =
     subst (λ r. IfOk r (λ old. old ≡ get nat_eq c.reserve.new.self c.hash_of-hash.result)) c.unwrap-before.ensures c.insert.ensures.old ∙ same c.hash_of-hash.result ∙ ap last hash in
     let link : c.unwrap_or.result ≡ unwrap_or (last (hash_of key)) 4294967295 = c.unwrap_or.ensures ∙ ap (λ o. unwrap_or o 4294967295) before in
+    let can : g.L.Keep.can_keep c.self.inside.keys c.args.key.now = subst (λ l. g.L.Keep.can_keep l c.args.key.now) (sym c.self.view_is) c.requires.kept in
+    let kept : g.L.Keys.keys c.keep.new.self ≡ keys ++ key ∷ [] = ap g.L.Keys.keys c.in_ok-keep.ensures.ok ∙ g.met.L.Keep.comes_last c.self.inside.keys c.args.key.now can in
     let linked : c.push.new.self.items ≡ links ++ unwrap_or (last (hash_of key)) 4294967295 ∷ [] =
     c.push.ensures.items ∙ ap (λ r. if is_ok r then c.reserve-2.new.self.items ++ c.unwrap_or.result ∷ [] else c.reserve-2.new.self.items) c.unwrap.ensures
     ∙ (λ i. c.reserve-2.ensures.items i ++ link i ∷ []) in
     subst (λ l. IsChained (g.L.Keys.keys c.keep.new.self) (get nat_eq c.insert.new.self) l) (sym linked)
-    (subst (λ k. IsChained k (get nat_eq c.insert.new.self) (links ++ unwrap_or (last (hash_of key)) 4294967295 ∷ [])) (sym c.in_ok-keep.ensures.ok)
+    (subst (λ k. IsChained k (get nat_eq c.insert.new.self) (links ++ unwrap_or (last (hash_of key)) 4294967295 ∷ [])) (sym kept)
     (IsChained-push key keys last links c.self.invariant new few (get nat_eq c.insert.new.self) updated))
 
 pub returns-clause-number : goal.returns-clause-number
@@ -39,4 +41,6 @@ returns-clause-number g c =
     let keys = g.L.Keys.keys c.self.inside.keys in
     let new : number_of key keys ≡ None = ap (λ l. number_of key (g.L.Keys.keys l)) c.self.view_is ∙ sym c.look_up.ensures ∙ c.in_default.is in
     let number : c.len-number.result ≡ length keys = c.len-number.ensures ∙ c.reserve-2.new.self.ok.0 ∙ ap length c.reserve-2.ensures.items ∙ c.self.invariant.linked in
-    ap (number_of key) c.in_ok-keep.ensures.ok ∙ number_of-push key keys new c.self.invariant.different ∙ ap Some (sym number)
+    let can : g.L.Keep.can_keep c.self.inside.keys c.args.key.now = subst (λ l. g.L.Keep.can_keep l c.args.key.now) (sym c.self.view_is) c.requires.kept in
+    let kept : g.L.Keys.keys c.keep.new.self ≡ keys ++ key ∷ [] = ap g.L.Keys.keys c.in_ok-keep.ensures.ok ∙ g.met.L.Keep.comes_last c.self.inside.keys c.args.key.now can in
+    ap (number_of key) kept ∙ number_of-push key keys new c.self.invariant.different ∙ ap Some (sym number)
