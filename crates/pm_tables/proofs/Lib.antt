@@ -8,6 +8,7 @@ pub mod HasRead
 pub mod Headers
 pub mod Files
 pub mod Chosen
+pub mod Leads
 pub mod KeyOrders
 pub mod Fitting
 pub mod RowsOnce

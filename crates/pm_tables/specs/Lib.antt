@@ -5,5 +5,6 @@ pub mod Reading
 pub mod HasRead
 pub mod Table
 pub mod Keys
+pub mod Leads
 pub mod Loading
 pub mod Worked
