@@ -10,6 +10,7 @@ pub mod Files
 pub mod Chosen
 pub mod Leads
 pub mod KeyOrders
+pub mod Targets
 pub mod Fitting
 pub mod RowsOnce
 pub mod Once

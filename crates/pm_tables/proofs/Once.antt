@@ -56,6 +56,7 @@ file_is columns bytes most (bad.Width at) ne h = absurd h
 file_is columns bytes most (bad.Field at column) ne h = absurd h
 file_is columns bytes most (bad.DoubleKey a b) ne h = absurd h
 file_is columns bytes most (bad.OutOfOrder at) ne h = absurd h
+file_is columns bytes most (bad.NoTarget r number) ne h = absurd h
 
 all_once : (columns : List ColumnDecl) (most : ℕ) (records : List (List (List ℕ))) (e f : DataBad)
     → FaultsAll columns most records e → FaultsAll columns most records f → e ≡ f

@@ -35,3 +35,4 @@ FaultsTable decl rows (bad.Header c) = ⊥
 FaultsTable decl rows bad.TooManyRows = ⊥
 FaultsTable decl rows (bad.Width at) = ⊥
 FaultsTable decl rows (bad.Field at column) = ⊥
+FaultsTable decl rows (bad.NoTarget r number) = ⊥
