@@ -138,6 +138,7 @@ table_is decl rows (bad.Header c) ne h = absurd h
 table_is decl rows bad.TooManyRows ne h = absurd h
 table_is decl rows (bad.Width at) ne h = absurd h
 table_is decl rows (bad.Field at column) ne h = absurd h
+table_is decl rows (bad.NoTarget r number) ne h = absurd h
 
 some_once : {A : Type 0} (o : Option A) (x y : A) → o ≡ Some x → o ≡ Some y → x ≡ y
 some_once o x y e f = let both = sym e ∙ f in cc both
