@@ -8,8 +8,9 @@ pub mod HasRead
 pub mod Headers
 pub mod Files
 pub mod Chosen
-pub mod Walks
-pub mod Fits
+pub mod Leads
+pub mod KeyOrders
+pub mod Targets
 pub mod Fitting
 pub mod RowsOnce
 pub mod Once

@@ -56,6 +56,7 @@ file_is columns bytes most (bad.Width at) ne h = absurd h
 file_is columns bytes most (bad.Field at column) ne h = absurd h
 file_is columns bytes most (bad.DoubleKey a b) ne h = absurd h
 file_is columns bytes most (bad.OutOfOrder at) ne h = absurd h
+file_is columns bytes most (bad.NoTarget r number) ne h = absurd h
 
 all_once : (columns : List ColumnDecl) (most : ℕ) (records : List (List (List ℕ))) (e f : DataBad)
     → FaultsAll columns most records e → FaultsAll columns most records f → e ≡ f
@@ -137,6 +138,7 @@ table_is decl rows (bad.Header c) ne h = absurd h
 table_is decl rows bad.TooManyRows ne h = absurd h
 table_is decl rows (bad.Width at) ne h = absurd h
 table_is decl rows (bad.Field at column) ne h = absurd h
+table_is decl rows (bad.NoTarget r number) ne h = absurd h
 
 some_once : {A : Type 0} (o : Option A) (x y : A) → o ≡ Some x → o ≡ Some y → x ≡ y
 some_once o x y e f = let both = sym e ∙ f in cc both

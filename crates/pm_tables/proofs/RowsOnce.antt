@@ -117,6 +117,7 @@ record_is columns fields r (bad.Header c) ne h = absurd h
 record_is columns fields r bad.TooManyRows ne h = absurd h
 record_is columns fields r (bad.DoubleKey a b) ne h = absurd h
 record_is columns fields r (bad.OutOfOrder at) ne h = absurd h
+record_is columns fields r (bad.NoTarget at number) ne h = absurd h
 
 record_once : (columns : List ColumnDecl) (fields : List (List ℕ)) (r : ℕ) (e f : DataBad) → e ≢ bad.Memory → f ≢ bad.Memory
     → FaultsRecord columns fields r e → FaultsRecord columns fields r f → e ≡ f

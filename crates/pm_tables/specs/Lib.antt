@@ -4,6 +4,8 @@ pub mod Typing
 pub mod Reading
 pub mod HasRead
 pub mod Table
+pub mod References
 pub mod Keys
+pub mod Leads
 pub mod Loading
 pub mod Worked

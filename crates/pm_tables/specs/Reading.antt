@@ -35,3 +35,4 @@ FaultsFile columns bytes most (bad.Width at) = ⊥
 FaultsFile columns bytes most (bad.Field at column) = ⊥
 FaultsFile columns bytes most (bad.DoubleKey a b) = ⊥
 FaultsFile columns bytes most (bad.OutOfOrder at) = ⊥
+FaultsFile columns bytes most (bad.NoTarget r number) = ⊥

@@ -1,5 +1,5 @@
 -- why rows are no table of a declaration
-use Rattle.std.specs.Prelude.{◌≡◌, ◌≢◌, ◌+◌, ◌<◌, ℕ, suc, List, [], length, get_or, Some}
+use Rattle.std.specs.Prelude.{◌≡◌, ◌≢◌, ◌+◌, ◌<◌, ℕ, suc, List, length, Some}
 use Rattle.std.specs.declared.cmp.Ordering.TheVariants as ordering
 use Rattle.pm_values.specs.declared.value.Value.{Value}
 use Rattle.pm_values.specs.Table.{Declaration}
@@ -35,7 +35,4 @@ FaultsTable decl rows (bad.Header c) = ⊥
 FaultsTable decl rows bad.TooManyRows = ⊥
 FaultsTable decl rows (bad.Width at) = ⊥
 FaultsTable decl rows (bad.Field at column) = ⊥
-
--- each row has all of these columns
-abbrev pub HaveColumns : List ℕ → List (List Value) → Type 0
-HaveColumns columns rows = (at : ℕ) → at < length rows → (k : ℕ) → k < length columns → get_or columns k 0 < length (get_or rows at [])
+FaultsTable decl rows (bad.NoTarget r number) = ⊥

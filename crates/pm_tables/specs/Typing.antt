@@ -42,6 +42,7 @@ FaultsRecord columns fields r (bad.Header c) = ⊥
 FaultsRecord columns fields r bad.TooManyRows = ⊥
 FaultsRecord columns fields r (bad.DoubleKey a b) = ⊥
 FaultsRecord columns fields r (bad.OutOfOrder at) = ⊥
+FaultsRecord columns fields r (bad.NoTarget at number) = ⊥
 
 -- want of memory, or the fault of the first of the records from one place up to another that writes no row
 abbrev pub FaultsFirst : List ColumnDecl → List (List (List ℕ)) → ℕ → ℕ → DataBad → Type 0

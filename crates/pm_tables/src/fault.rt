@@ -1,3 +1,4 @@
+//! What is wrong with a table's file or with its rows.
 ghost use Rattle.std.specs.Prelude.{◌≡◌};
 ghost use Rattle.pm_tables.specs.declared.fault.DataBad.TheVariants.{Memory};
 
@@ -36,6 +37,9 @@ pub enum DataBad {
     /// The ORDER columns of this record are below those of the record before.
     #[error("record {0} is out of order")]
     OutOfOrder(u32),
+    /// The columns of this record that the reference with this number, from 1, names have no target.
+    #[error("record {0} has no target of reference {1}")]
+    NoTarget(u32, u32),
     /// There was no memory.
     #[error("out of memory")]
     Memory,

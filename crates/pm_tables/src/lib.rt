@@ -9,6 +9,7 @@ mod keys;
 mod loading;
 mod reading;
 mod record_list;
+mod references;
 mod streaming;
 mod table;
 #[cfg(test)]
@@ -20,5 +21,6 @@ pub use field::worked_fields;
 pub use loading::{calls_once, load};
 pub use reading::records;
 pub use record_list::Records;
+pub use references::check_reference;
 pub use table::finish;
 pub use typing::type_rows;

@@ -1,13 +1,14 @@
-ghost use Rattle.std.specs.Prelude.{◌≡◌, ◌≢◌, ◌<◌, ◌≤◌, ◌+◌, ◌^◌, ℕ, All, IfErr, IfOk, IsTrue, MatchOption, get_or, length};
-ghost use Rattle.pm_values.specs.Order.{Ascends, IsKey, NamesColumns, key_at};
-ghost use Rattle.pm_values.specs.Table.{FitsColumns, HasValidKind};
-ghost use Rattle.pm_tables.specs.Keys.{AreChained, IsLatest, bucket_at};
-ghost use Rattle.pm_tables.specs.Table.{FallsFirst, FaultsTable, HaveColumns, RepeatsFirst};
+//! A table of typed rows, where their KEY and ORDER hold.
+ghost use Rattle.std.specs.Prelude.{◌≡◌, ◌≤◌, ◌^◌, ◌⊎◌, All, IfErr, IfOk, IfSome, IsTrue, MatchOption, Some, length};
+ghost use Rattle.pm_values.specs.Order.{Ascends, IsKey};
+ghost use Rattle.pm_values.specs.Table.{FitsColumns};
+ghost use Rattle.pm_tables.specs.Keys.{IsKeyOrder};
+ghost use Rattle.pm_tables.specs.Table.{FallsFirst, FaultsTable, RepeatsFirst};
 
 use crate::fault::DataBad;
-use crate::keys::{agree, bucket_of, compare_chosen, key_hash};
+use crate::keys::{agree, compare_rows, key_order};
 use pm_values::{Row, Rows, Table, TableDecl};
-use std::alloc::Global;
+use std::alloc::{AllocError, Global};
 use std::cmp::Ordering;
 
 /// The table of these rows, whose KEY and ORDER hold.
@@ -21,7 +22,7 @@ pub fn finish(alloc: Global, decl: TableDecl, rows: Rows) -> Result<Table, DataB
     ensures refused { IfErr result (FaultsTable decl rows) }
 {
     if let Some(columns) = decl.key() {
-        if let Some((first, second)) = repeat(alloc, rows.as_slice(), columns.as_slice())? {
+        if let Some((first, second)) = first_repeat(alloc, rows.as_slice(), columns.as_slice())? {
             return Err(DataBad::DoubleKey(first + 1, second + 1));
         }
     }
@@ -35,93 +36,71 @@ pub fn finish(alloc: Global, decl: TableDecl, rows: Rows) -> Result<Table, DataB
 
 /// The place, from 0, of the first row that is above the next one by these columns.
 fn first_fall(rows: &[Row], columns: &[u32]) -> Option<u32>
-    requires few { length rows.now ≤ 2 ^ 24 }
-    requires columns { HaveColumns columns.now rows.now }
-    ensures { MatchOption result (Ascends columns.now rows.now) (λ above. (above < 2 ^ 24) × FallsFirst columns.now rows.now above) }
+    requires { length rows.now ≤ 2 ^ 24 }
+    ensures { MatchOption result (Ascends columns.now rows.now) (FallsFirst columns.now rows.now) }
 {
-    for next in 1..rows.len() {
-        if compare_chosen(&rows[next - 1], &rows[next], columns) == Ordering::Greater {
-            return Some(next as u32 - 1);
+    for next in 1..rows.len() as u32 {
+        if let Ordering::Greater = compare_rows(rows, columns, next - 1, next) {
+            return Some(next - 1);
         }
     }
     None
 }
 
-/// The first row that agrees with an earlier one in these columns. Rows that rise by them need no search.
-fn repeat(alloc: Global, rows: &[Row], columns: &[u32]) -> Result<Option<(u32, u32)>, DataBad>
-    requires few { length rows.now ≤ 2 ^ 24 }
-    requires columns { HaveColumns columns.now rows.now }
-    ensures found { IfOk result (λ found. MatchOption found (IsKey columns.now rows.now)
-        (λ pair. (pair.0 < 2 ^ 24) × (pair.1 < 2 ^ 24) × RepeatsFirst columns.now rows.now pair.0 pair.1)) }
-    ensures refused { IfErr result (λ e. e ≡ DataBad.Memory) }
+/// The first row that agrees with an earlier one in these columns, behind the first such earlier one.
+///
+/// Rows that ascend strictly by the columns need no search.
+fn first_repeat(
+    alloc: Global,
+    rows: &[Row],
+    columns: &[u32],
+) -> Result<Option<(u32, u32)>, AllocError>
+    requires { length rows.now ≤ 2 ^ 24 }
+    ensures { IfOk result (λ found. MatchOption found (IsKey columns.now rows.now) (λ pair. RepeatsFirst columns.now rows.now pair.0 pair.1)) }
 {
-    if rises(rows, columns) {
+    if ascends_strictly(rows, columns) {
         return Ok(None);
     }
-    first_repeat(alloc, rows, columns)
+    let order = key_order(alloc, rows, columns)?;
+    Ok(least_repeat(rows, columns, order.as_slice()))
 }
 
 /// Whether each row is above the one before it by these columns, so that no two agree in them.
-fn rises(rows: &[Row], columns: &[u32]) -> bool
-    requires columns { HaveColumns columns.now rows.now }
+fn ascends_strictly(rows: &[Row], columns: &[u32]) -> bool
+    requires { length rows.now ≤ 2 ^ 24 }
     ensures { IsTrue result → IsKey columns.now rows.now }
 {
-    for next in 1..rows.len() {
-        if compare_chosen(&rows[next - 1], &rows[next], columns) != Ordering::Less {
+    for next in 1..rows.len() as u32 {
+        if compare_rows(rows, columns, next - 1, next) != Ordering::Less {
             return false;
         }
     }
     true
 }
 
-/// The places, from 0, of the first row that agrees with an earlier one in these columns: the earlier one's, and its own.
-fn first_repeat(alloc: Global, rows: &[Row], columns: &[u32]) -> Result<Option<(u32, u32)>, DataBad>
-    requires few { length rows.now ≤ 2 ^ 24 }
-    requires columns { HaveColumns columns.now rows.now }
-    ensures found { IfOk result (λ found. MatchOption found (IsKey columns.now rows.now)
-        (λ pair. (pair.0 < 2 ^ 24) × (pair.1 < 2 ^ 24) × RepeatsFirst columns.now rows.now pair.0 pair.1)) }
-    ensures refused { IfErr result (λ e. e ≡ DataBad.Memory) }
+/// Of the rows that agree with their neighbours in the order of the keys, the two with the least second row.
+fn least_repeat(rows: &[Row], columns: &[u32], order: &[u32]) -> Option<(u32, u32)>
+    requires { IsKeyOrder columns.now rows.now order.now }
+    ensures { MatchOption result (IsKey columns.now rows.now) (λ pair. RepeatsFirst columns.now rows.now pair.0 pair.1) }
 {
-    let count = rows.len() * 2;
-    let mut latest: Vec<Option<u32>> = vec![in alloc; None; count + 64]?;
-    let mut earlier: Vec<Option<u32>> = Vec::with_capacity(alloc, rows.len())?;
-    for at in 0..rows.len() {
-        let bucket = bucket_of(count, key_hash(&rows[at], columns));
-        let start = latest[bucket];
-        latest[bucket] = Some(at as u32);
-        if let Some(first) = find_same(rows, columns, at as u32, start, earlier.as_slice()) {
-            return Ok(Some((first, at as u32)));
+    let mut least = None;
+    for next in 1..order.len() {
+        let (first, second) = (order[next - 1], order[next]);
+        if agree(rows, columns, first, second) {
+            least = Some(earlier(least, (first, second)));
         }
-        earlier.push(start)?;
     }
-    Ok(None)
+    least
 }
 
-/// An earlier row that agrees with the row at this place in these columns.
-///
-/// The rows of its bucket are walked down from the last of them, `start`; `earlier` has for each row the one before it
-/// in the same bucket.
-fn find_same(
-    rows: &[Row],
-    columns: &[u32],
-    at: u32,
-    start: Option<u32>,
-    earlier: &[Option<u32>],
-) -> Option<u32>
-    requires within { at < length rows.now }
-    requires columns { HaveColumns columns.now rows.now }
-    requires start { IsLatest (bucket_at columns.now rows.now) at (bucket_at columns.now rows.now at) start }
-    requires count { length earlier.now ≡ at }
-    requires chained { AreChained (bucket_at columns.now rows.now) earlier.now }
-    ensures { MatchOption result ((j : ℕ) → j < at → key_at columns.now rows.now j ≢ key_at columns.now rows.now at)
-        (λ i. (i < at) × (key_at columns.now rows.now i ≡ key_at columns.now rows.now at)) }
+/// Of a pair that is known, if there is one, and another the one whose second row has the lesser number.
+fn earlier(known: Option<(u32, u32)>, other: (u32, u32)) -> (u32, u32)
+    ensures one { (result ≡ other) ⊎ (known ≡ Some result) }
+    ensures no_later { result.1 ≤ other.1 }
+    ensures least { IfSome known (λ pair. result.1 ≤ pair.1) }
 {
-    let mut next = start;
-    while let Some(i) = next {
-        if agree(&rows[i as usize], &rows[at as usize], columns) {
-            return Some(i);
-        }
-        next = earlier[i as usize];
+    match known {
+        Some(pair) if pair.1 <= other.1 => pair,
+        _ => other,
     }
-    None
 }

@@ -1,13 +1,14 @@
-use Rattle.std.proofs.Common.{arith, length, ◌<◌, ◌-◌}
-use Rattle.pm_tables.proofs.Walks.{row_at}
+use Rattle.std.proofs.Common.{◌≡◌, ◌-◌, ◌∙◌, arith, suc}
+use Rattle.std.specs.Prelude.{◌≢◌}
+use Rattle.std.specs.declared.cmp.Ordering.TheVariants as ordering
+use Rattle.pm_values.specs.Order.{key_at, values_cmp}
+use Rattle.pm_tables.proofs.KeyOrders.{next_pair}
 use Rattle.pm_tables.proofs.table.first_fall.Goals as goal
 
-pub compare_chosen-requires-clause-left : goal.compare_chosen-requires-clause-left
-compare_chosen-requires-clause-left c = λ k lt.
-    let within : c.loop-next.next - 1 < length c.args.rows.now = omega arith in
-    rw (row_at c.args.rows.now (c.loop-next.next - 1) c.index-rows-next.result within c.index-rows-next.is) (c.requires.columns (c.loop-next.next - 1) within k lt)
-
-pub compare_chosen-requires-clause-right : goal.compare_chosen-requires-clause-right
-compare_chosen-requires-clause-right c = λ k lt.
-    rw (row_at c.args.rows.now c.loop-next.next c.index-rows-next-in-loop-next.result c.loop-next-test.true c.index-rows-next-in-loop-next.is)
-    (c.requires.columns c.loop-next.next c.loop-next-test.true k lt)
+pub loop-next-preserved : goal.loop-next-preserved
+loop-next-preserved c =
+    let rows = c.args.rows.now in
+    let columns = c.args.columns.now in
+    let some : suc (c.loop-next.next - 1) ≡ c.loop-next.next = omega arith in
+    next_pair (λ k. values_cmp (key_at columns rows k) (key_at columns rows (suc k)) ≢ ordering.Greater) c.loop-next.next c.loop-next.auto.next c.loop-next.invariant
+    (λ e. c.in_default.not-Greater (c.compare_rows.ensures ∙ rw some at e))
