@@ -1,12 +1,16 @@
-ghost use Rattle.std.specs.Prelude.{◌≡◌, All, IfOk, length};
+//! Files with ample memory: which answer each gives.
+ghost use Rattle.std.specs.Prelude.{◌≡◌, ◌≤◌, All, IfOk, length};
 ghost use Rattle.pm_values.specs.Order.{NamesColumns};
-ghost use Rattle.pm_values.specs.Table.{HasValidKind, IsValidKind};
+ghost use Rattle.pm_values.specs.Table.{HasValidKind, IsValidKind, RefersByOwn};
 
 use crate::loading::load;
 use crate::reading::records;
 use crate::record_list::Records;
+use crate::references::check_reference;
 use crate::typing::type_rows;
-use pm_values::{ColumnDecl, ColumnDecls, Columns, Kind, References, Table, TableDecl, Txt, Value};
+use pm_values::{
+    ColumnDecl, ColumnDecls, Columns, Kind, Reference, References, Table, TableDecl, Txt, Value,
+};
 use std::alloc::{AllocError, Global};
 use std::test::Fail;
 
@@ -98,6 +102,11 @@ fn files_of_numbers(rt: HostRuntime) -> Result<(), Fail> {
         ("p,q\n1\n", "Width(1)"),
         ("p,q\n1,2\n1,2,3\n", "Width(2)"),
         ("p,q\n12.505,1\n", "Field(1, 1)"),
+        ("p,q\nx,1\n1,2\n1,2\n1,2\n1,2\n1,2\n", "TooManyRows"),
+        (
+            "p,q\n0000000000000000000000000000.5,000000000000000000000000000001\n",
+            "50 1 /",
+        ),
         ("p,q\n1,9223372036854775808\n", "Field(1, 2)"),
         ("p,q\n1,\n", "Field(1, 2)"),
         ("p,q\n1,2\n1.,2\n", "Field(2, 1)"),
@@ -186,6 +195,131 @@ fn records_are_listed_and_typed_in_parts(rt: HostRuntime) -> Result<(), Fail> {
             want,
             "{text}"
         );
+    }
+    Ok(())
+}
+
+// One reference, of the second column to the first of the same table.
+fn second_to_first(alloc: Global) -> Result<References, AllocError>
+    ensures count { IfOk result (λ references. length references ≡ 1) }
+    ensures own { IfOk result (All (RefersByOwn 2)) }
+{
+    let mut references = References::new(alloc);
+    references.push(Reference {
+        columns: Columns::from_slice(alloc, &[1])?,
+        target: Txt::new(alloc, "t")?,
+        keys: Columns::from_slice(alloc, &[0])?,
+    })?;
+    Ok(references)
+}
+
+// A table of two columns p and q of two decimals, of which q may be NULL. The KEY is p, and q refers to it.
+fn referring(alloc: Global) -> Result<TableDecl, AllocError>
+    ensures { IfOk result (λ decl. length decl.references ≡ 1) }
+{
+    let name = Txt::new(alloc, "t")?;
+    let file = Txt::new(alloc, "t.csv")?;
+    let columns = columns(alloc, Kind::Num(2), Kind::Num(2))?;
+    let key = first_column(alloc, true)?;
+    Ok(TableDecl::new(name, file, columns, key, None, second_to_first(alloc)?))
+}
+
+// Whether each row of a file of at most 2,000 records has a row to which it refers.
+fn checked(alloc: Global, bytes: &[u8]) -> Result<String, AllocError> {
+    match load(alloc, referring(alloc)?, bytes, 2000) {
+        Ok(table) => match check_reference(alloc, &table, 1, &table) {
+            Ok(()) => format!(in alloc; "{} rows", table.rows().len()),
+            Err(e) => format!(in alloc; "{e:?}"),
+        },
+        Err(e) => format!(in alloc; "{e:?}"),
+    }
+}
+
+// 1,999 records in no order, each of which refers to another one, and a last record.
+fn many(alloc: Global, last: &str) -> Result<String, AllocError> {
+    let mut text = String::from_str(alloc, "p,q\n")?;
+    for at in 1..2000u32 {
+        let line = format!(in alloc; "{},{}\n", at * 7 % 2003, (2000 - at) * 7 % 2003)?;
+        text.push_str(line.as_str())?;
+    }
+    text.push_str(last)?;
+    Ok(text)
+}
+
+#[test]
+fn references_of_a_table_to_itself(rt: HostRuntime) -> Result<(), Fail> {
+    let alloc = rt.alloc();
+    for (text, want) in [
+        ("p,q\n", "0 rows"),
+        ("p,q\n2,1\n1,1.00\n", "2 rows"),
+        ("p,q\n2,1\n1,3\n3,4\n5,0\n", "NoTarget(3, 1)"),
+        ("p,q\n2,2\n1,\n", "NoTarget(2, 1)"),
+        ("p,q\n2,9\n2,9\n", "DoubleKey(1, 2)"),
+    ] {
+        assert_eq!(rt; checked(alloc, text.as_bytes())?.as_str(), want, "{text}");
+    }
+    for (last, want) in [
+        ("1982,7\n", "2000 rows"),
+        ("1982,0.07\n", "NoTarget(2000, 1)"),
+        ("7,7\n", "DoubleKey(1, 2000)"),
+    ] {
+        let text = many(alloc, last)?;
+        assert_eq!(rt;
+            checked(alloc, text.as_str().as_bytes())?.as_str(),
+            want,
+            "{last}"
+        );
+    }
+    Ok(())
+}
+
+fn wide_columns(alloc: Global) -> Result<ColumnDecls, AllocError>
+    ensures count { IfOk result (λ columns. length columns ≡ 64) }
+    ensures scales { IfOk result (All HasValidKind) }
+{
+    let mut columns = ColumnDecls::new(alloc);
+    for number in 0..64 {
+        let name = format!(in alloc; "c{number}")?;
+        columns.push(column(alloc, name.as_str(), Kind::Int, false)?)?;
+    }
+    Ok(columns)
+}
+
+// A table of 64 columns of numbers, of which the last one is the KEY.
+fn wide(alloc: Global) -> Result<TableDecl, AllocError> {
+    let columns = wide_columns(alloc)?;
+    let key = Columns::from_slice(alloc, &[63])?;
+    let name = Txt::new(alloc, "w")?;
+    let file = Txt::new(alloc, "w.csv")?;
+    Ok(TableDecl::new(name, file, columns, Some(key), None, References::new(alloc)))
+}
+
+// A file with these records of 64 fields, each 63 times one field and then another.
+fn wide_file(alloc: Global, records: &[(&str, &str)]) -> Result<String, AllocError> {
+    let mut text = String::new(alloc);
+    for number in 0..63 {
+        text.push_str(format!(in alloc; "c{number},")?.as_str())?;
+    }
+    text.push_str("c63\n")?;
+    for (others, last) in records {
+        for _ in 0..63 {
+            text.push_str(others)?;
+        }
+        text.push_str(last)?;
+    }
+    Ok(text)
+}
+
+#[test]
+fn the_last_of_64_columns_is_a_key(rt: HostRuntime) -> Result<(), Fail> {
+    let alloc = rt.alloc();
+    for (last, want) in [("1\n", "DoubleKey(1, 3)"), ("3\n", "3 rows")] {
+        let text = wide_file(alloc, &[("7,", "1\n"), ("7,", "2\n"), ("8,", last)])?;
+        let given = match load(alloc, wide(alloc)?, text.as_str().as_bytes(), 5) {
+            Ok(table) => format!(in alloc; "{} rows", table.rows().len())?,
+            Err(e) => format!(in alloc; "{e:?}")?,
+        };
+        assert_eq!(rt; given.as_str(), want, "{last}");
     }
     Ok(())
 }

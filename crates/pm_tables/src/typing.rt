@@ -1,3 +1,4 @@
+//! The rows that records write.
 ghost use Rattle.std.specs.Prelude.{◌≡◌, ◌+◌, ◌^◌, ◌<◌, ◌≤◌, [], All, IfErr, IfOk, MatchResult, get_or, length, slice_range};
 ghost use Rattle.csv.specs.Records.{fields_of};
 ghost use Rattle.pm_values.specs.Table.{FitsColumns, HasValidKind};
@@ -56,14 +57,14 @@ pub(crate) fn type_row(
     if end - start != columns.len() {
         return Err(DataBad::Width(number));
     }
-    let mut row = Row::new(alloc);
+    let mut values = Vec::with_capacity(alloc, columns.len())?;
     for (place, column) in columns.iter().enumerate() {
         match field_value(alloc, column, field_at(fields, start + place))? {
-            Some(value) => row.push(value)?,
+            Some(value) => values.push(value)?,
             None => return Err(DataBad::Field(number, place as u32 + 1)),
         }
     }
-    Ok(row)
+    Ok(Row::from_vec(values))
 }
 
 fn field_at(fields: &StringRecord, at: usize) -> &str

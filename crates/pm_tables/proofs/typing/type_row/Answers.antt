@@ -22,7 +22,7 @@ returns-in-None c =
       width,
       c.loop-place.place,
       refl,
-      lacks_here c.args.columns.now fields c.loop-place.row c.loop-place.place c.index-columns-place.result
+      lacks_here c.args.columns.now fields c.loop-place.values.items c.loop-place.place c.index-columns-place.result
           c.loop-place.invariant c.loop-place-test.true (omega (arith, width)) c.index-columns-place.is (rw (here, ← c.field_at.ensures) none),
     )
 
@@ -34,7 +34,7 @@ loop-place-preserved c =
     let width : length fields ≡ length c.args.columns.now = omega (arith, size) in
     let here = range_at all c.args.start c.args.end c.loop-place.place (omega arith) in
     let has : HasValue c.index-columns-place.result c.field_at.result.now c.in-Some.value = rw c.in-Some.is at c.in_ok-value.ensures in
-    rw c.in_ok-push-in-Some.ensures.ok (writes_more c.args.columns.now fields c.loop-place.row c.loop-place.place c.index-columns-place.result c.in-Some.value
+    rw c.in_ok-push-in-Some.ensures.items (writes_more c.args.columns.now fields c.loop-place.values.items c.loop-place.place c.index-columns-place.result c.in-Some.value
     c.loop-place.invariant c.loop-place-test.true (omega (arith, width)) c.index-columns-place.is (rw (here, ← c.field_at.ensures) has))
 
 pub returns : goal.returns
@@ -42,4 +42,4 @@ returns c =
     let all = fields_of c.args.fields.now in
     let fields = slice_range all c.args.start c.args.end in
     let size = range_length all c.args.start c.args.end c.requires.within in
-    writes_all c.args.columns.now fields c.loop-place.row c.loop-place.place (omega arith) (omega (arith, size)) c.loop-place.invariant
+    rw c.from_vec.ensures (writes_all c.args.columns.now fields c.loop-place.values.items c.loop-place.place (omega arith) (omega (arith, size)) c.loop-place.invariant)
