@@ -1,0 +1,4 @@
+pub mod Found
+pub mod Chained
+pub mod Cuts
+pub mod Entered

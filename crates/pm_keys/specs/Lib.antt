@@ -1,0 +1,4 @@
+pub mod Numbers
+pub mod Hash
+pub mod Chains
+pub mod Cuts
