@@ -1,3 +1,4 @@
-pub mod Runs
 pub mod SortedNumbers
 pub mod SortState
+pub mod Totals
+pub mod GroupState
