@@ -1,0 +1,388 @@
+-- the groups of rows, and what one more row changes of them
+use Rattle.std.proofs.Common.{◌≡◌, ℕ, suc, zero, ◌+◌, ◌-◌, ◌*◌, ◌<◌, ◌≤◌, inl, inr, Bool, true, false, List, [], ◌∷◌, ◌++◌, length, map, filter, take, drop, get_or, None, Some, refl, ap, sym, ◌∙◌, subst, arith, append-nil}
+use Rattle.std.specs.Prelude.{◌≢◌, All, AllPairs}
+use Rattle.std.specs.List.{AllByRecursion, list_any}
+use Rattle.std.proofs.Math.Nat.{mul-le-mul_right}
+use Rattle.std.proofs.lemmas.Bool.{cases_Bool, cases_lt, cases_order}
+use Rattle.std.proofs.lemmas.List.{take_at, drop_at, map_push, length-map, length-append, length_push, get_or-map, get_or_append_left, get_or-append-add, get_or-append_right, get_or_at, ext_get_or}
+use Rattle.std.proofs.lemmas.List.Elements.{recursion_from_All}
+use Rattle.std.proofs.lemmas.List.Folds.{Any-from_list_any}
+use Rattle.std.proofs.lemmas.List.Quantifiers.{position-Some}
+use Rattle.pm_values.specs.declared.value.Value.{Value}
+use Rattle.pm_values.specs.declared.value.Value.TheVariants as value
+use Rattle.pm_values.specs.Row.{Row, cell, pick}
+use Rattle.pm_values.specs.Equality.{same_values}
+use Rattle.pm_values.specs.Keys.{different_keys, once}
+use Rattle.pm_values.proofs.KeyCounts.{different_keys_are_its_keys}
+use Rattle.pm_values.proofs.ValueOrder.{same_values_equal}
+use Rattle.pm_keys.specs.Cuts.{cut}
+use Rattle.pm_keys.specs.Numbers.{KeyList, number_of, entered, HasWidth}
+use Rattle.pm_keys.proofs.Cuts.{length-cut, cut-wide, cut-cell}
+use Rattle.pm_keys.proofs.Chained.{entered-new, entered-old}
+use Rattle.pm_keys.proofs.Entered.{entered-different, absent-unnumbered}
+use Rattle.pm_keys.proofs.Found.{absent_nowhere}
+use Rattle.pm_plan.specs.declared.plan.Aggregate.{Aggregate}
+use Rattle.pm_plan.specs.declared.plan.Aggregate.TheVariants as aggregate
+use Rattle.pm_plan.specs.Joins.{keys_of}
+use Rattle.pm_plan.specs.Grouping.{aggregate_of, group_keys, grouped}
+use Rattle.pm_plan.proofs.Appends.{one_if, rows_of_key-more}
+use Rattle.pm_blocks.specs.SortedNumbers.{row_at}
+use Rattle.pm_blocks.specs.GroupState.{GroupState, IsOf, IsKept, side_by_side}
+use Rattle.pm_blocks.specs.Totals.{item_at, with_row, IsAdded, HasRoom, AreFew}
+use Rattle.pm_blocks.proofs.Aggregates.{aggregate_of-more, filter-all, HasRoom-some}
+use Rattle.pm_blocks.proofs.Sorts.{filter-none}
+
+-- ---- lists side by side
+
+pub length-side_by_side : (keys totals : List Row) → length totals ≡ length keys → length (side_by_side keys totals) ≡ length keys
+length-side_by_side [] totals e = refl
+length-side_by_side (key ∷ keys) [] e = absurd (omega (arith, e))
+length-side_by_side (key ∷ keys) (total ∷ totals) e = ap suc (length-side_by_side keys totals (omega (arith, e)))
+
+pub get_or-side_by_side : (keys totals : List Row) (i : ℕ) → i < length keys → length totals ≡ length keys → get_or (side_by_side keys totals) i [] ≡ row_at keys i ++ row_at totals i
+get_or-side_by_side [] totals i h e = absurd (omega arith)
+get_or-side_by_side (key ∷ keys) [] i h e = absurd (omega (arith, e))
+get_or-side_by_side (key ∷ keys) (total ∷ totals) zero h e = refl
+get_or-side_by_side (key ∷ keys) (total ∷ totals) (suc i) h e = get_or-side_by_side keys totals i (omega arith) (omega (arith, e))
+
+side_by_side-map : (f : Row → Row) (keys : List Row) → map (λ key. key ++ f key) keys ≡ side_by_side keys (map f keys)
+side_by_side-map f [] = refl
+side_by_side-map f (key ∷ keys) = ap (λ rest. (key ++ f key) ∷ rest) (side_by_side-map f keys)
+
+-- keys of one width are told from what stands beside them
+side_by_side-parts : (width : ℕ) (keys ks totals ts : List Row) → AllByRecursion (HasWidth width) keys → AllByRecursion (HasWidth width) ks
+    → length totals ≡ length keys → length ts ≡ length ks → side_by_side keys totals ≡ side_by_side ks ts → (keys ≡ ks) × (totals ≡ ts)
+side_by_side-parts width [] [] [] [] wide wides l m e = (refl, refl)
+side_by_side-parts width [] [] [] (t ∷ ts) wide wides l m e = absurd (omega (arith, m))
+side_by_side-parts width [] [] (total ∷ totals) ts wide wides l m e = absurd (omega (arith, l))
+side_by_side-parts width [] (k ∷ ks) totals [] wide wides l m e = absurd (omega (arith, m))
+side_by_side-parts width [] (k ∷ ks) totals (t ∷ ts) wide wides l m e = absurd (cc e)
+side_by_side-parts width (key ∷ keys) ks [] ts wide wides l m e = absurd (omega (arith, l))
+side_by_side-parts width (key ∷ keys) [] (total ∷ totals) ts wide wides l m e = absurd (cc e)
+side_by_side-parts width (key ∷ keys) (k ∷ ks) (total ∷ totals) [] wide wides l m e = absurd (omega (arith, m))
+side_by_side-parts width (key ∷ keys) (k ∷ ks) (total ∷ totals) (t ∷ ts) wide wides l m e =
+    let first : key ++ total ≡ k ++ t = cc e in
+    let rest = side_by_side-parts width keys ks totals ts wide.1 wides.1 (omega (arith, l)) (omega (arith, m)) (cc e) in
+    let same : key ≡ k = sym (take_at key total width wide.0) ∙ ap (take width) first ∙ take_at k t width wides.0 in
+    let beside : total ≡ t = sym (drop_at key total width wide.0) ∙ ap (drop width) first ∙ drop_at k t width wides.0 in
+    (ap (λ r. r ∷ keys) same ∙ ap (λ rs. k ∷ rs) rest.0, ap (λ r. r ∷ totals) beside ∙ ap (λ rs. t ∷ rs) rest.1)
+
+-- ---- the keys that were found
+
+-- the different keys of the rows, and the empty one alone where there are no columns
+abbrev pub found_keys : List ℕ → List Row → List Row
+found_keys [] rows = [] ∷ []
+found_keys (key ∷ keys) rows = group_keys (key ∷ keys) rows
+
+once-all : (P : Row → Type 0) (same : Row → Row → Bool) (xs : List Row) → AllByRecursion P xs → AllByRecursion P (once same xs)
+once-all P same [] all = tt
+once-all P same (x ∷ xs) all = (all.0, filter-all P _ (once same xs) (once-all P same xs all.1))
+
+found_keys-wide : (keys : List ℕ) (rows : List Row) → AllByRecursion (HasWidth (length keys)) (found_keys keys rows)
+found_keys-wide [] rows = (refl, tt)
+found_keys-wide (key ∷ keys) rows = once-all (HasWidth (length (key ∷ keys))) same_values (keys_of (key ∷ keys) rows) (picked rows)
+  where
+    picked : (some : List Row) → AllByRecursion (HasWidth (length (key ∷ keys))) (keys_of (key ∷ keys) some)
+    picked [] = tt
+    picked (row ∷ some) = (length-map (key ∷ keys) (λ column. cell row column), picked some)
+
+pub found_keys-more : (keys : List ℕ) (rows : List Row) (row : Row) → entered (pick keys row) (found_keys keys rows) ≡ found_keys keys (rows ++ row ∷ [])
+found_keys-more [] rows row = refl
+found_keys-more (key ∷ keys) rows row =
+    entered-different (pick (key ∷ keys) row) (keys_of (key ∷ keys) rows) ∙ ap different_keys (sym (map_push (pick (key ∷ keys)) rows row))
+
+-- ---- the rows of a key
+
+abbrev pub rows_with : List ℕ → Row → List Row → List Row
+rows_with keys key rows = filter (λ row. same_values key (pick keys row)) rows
+
+abbrev pub totals_of : List ℕ → List Aggregate → List Row → Row → Row
+totals_of keys items rows key = map (aggregate_of (rows_with keys key rows)) items
+
+rows_with-none : (keys : List ℕ) (rows : List Row) (row : Row) → number_of (pick keys row) (found_keys keys rows) ≡ None → rows_with keys (pick keys row) rows ≡ []
+rows_with-none [] rows row none = absurd (cc none)
+rows_with-none (key ∷ keys) rows row none =
+    elim (cases_Bool (list_any test rows)) [
+      | inl some ↦ let found = Any-from_list_any test rows some in
+          absurd (absent-unnumbered picked (different_keys (keys_of (key ∷ keys) rows)) none
+          ((different_keys_are_its_keys picked (keys_of (key ∷ keys) rows)).1 (
+            found.0,
+            omega (arith, length-map rows (pick (key ∷ keys)), found.2),
+            get_or-map (pick (key ∷ keys)) rows found.0 found.1 picked found.2 ∙ ap (pick (key ∷ keys)) found.3
+                ∙ sym ((same_values_equal picked (pick (key ∷ keys) found.1)).0 found.4),
+          )))
+      | inr nowhere ↦ filter-none test rows nowhere
+    ]
+  where
+    picked : Row
+    picked = pick (key ∷ keys) row
+
+    test : Row → Bool
+    test r = same_values picked (pick (key ∷ keys) r)
+
+-- of a key that is the new row's, and of another one
+total-same : (keys : List ℕ) (item : Aggregate) (rows : List Row) (row key : Row) → same_values key (pick keys row) ≡ true
+    → aggregate_of (rows_with keys key (rows ++ row ∷ [])) item ≡ with_row row item (aggregate_of (rows_with keys key rows) item)
+total-same keys item rows row key e =
+    ap (λ some. aggregate_of some item) (rows_of_key-more keys key row rows ∙ ap (λ b. rows_with keys key rows ++ one_if b row) e) ∙ aggregate_of-more item (rows_with keys key rows) row
+
+total-other : (keys : List ℕ) (item : Aggregate) (rows : List Row) (row key : Row) → key ≢ pick keys row
+    → aggregate_of (rows_with keys key (rows ++ row ∷ [])) item ≡ aggregate_of (rows_with keys key rows) item
+total-other keys item rows row key differ =
+    ap (λ some. aggregate_of some item)
+    (rows_of_key-more keys key row rows ∙ ap (λ b. rows_with keys key rows ++ one_if b row) (unlike key (pick keys row) differ) ∙ append-nil (rows_with keys key rows))
+  where
+    unlike : (a b : Row) → a ≢ b → same_values a b ≡ false
+    unlike a b apart = elim (cases_Bool (same_values a b)) [ inl t ↦ absurd (apart ((same_values_equal a b).0 t)) | inr f ↦ f ]
+
+-- ---- the groups
+
+pub grouped-side_by_side : (keys : List ℕ) (items : List Aggregate) (rows : List Row) → grouped keys items rows ≡ side_by_side (found_keys keys rows) (map (totals_of keys items rows) (found_keys keys rows))
+grouped-side_by_side [] items rows = ap (λ some. map (aggregate_of some) items ∷ []) (sym (all rows))
+  where
+    all : (some : List Row) → rows_with [] [] some ≡ some
+    all [] = refl
+    all (row ∷ some) = ap (λ rest. row ∷ rest) (all some)
+grouped-side_by_side (key ∷ keys) items rows = side_by_side-map (totals_of (key ∷ keys) items rows) (found_keys (key ∷ keys) rows)
+
+-- the aggregates of the rows of each key stand in one list
+pub record AreTotals (keys : List ℕ) (items : List Aggregate) (rows found : List Row) (totals : List Value) : Type 0 where
+  pub whole : length totals ≡ length found * length items
+  pub each : (i k : ℕ) → i < length found → k < length items → cell totals (i * length items + k) ≡ aggregate_of (rows_with keys (row_at found i) rows) (item_at items k)
+
+cell-totals_of : (keys : List ℕ) (items : List Aggregate) (rows found : List Row) (i k : ℕ) → i < length found → k < length items
+    → cell (row_at (map (totals_of keys items rows) found) i) k ≡ aggregate_of (rows_with keys (row_at found i) rows) (item_at items k)
+cell-totals_of keys items rows found i k h g =
+    ap (λ row. cell row k) (get_or-map (totals_of keys items rows) found i [] [] h)
+    ∙ get_or-map (aggregate_of (rows_with keys (row_at found i) rows)) items k aggregate.CountAll value.Null g
+
+AreTotals-from : (keys : List ℕ) (items : List Aggregate) (rows found : List Row) (totals : List Value) → length totals ≡ length found * length items
+    → cut (length items) (length found) totals ≡ map (totals_of keys items rows) found → AreTotals keys items rows found totals
+AreTotals-from keys items rows found totals whole e = record {
+  whole = whole;
+  each = λ i k h g. sym (cut-cell (length items) (length found) totals i k h g) ∙ ap (λ rs. cell (row_at rs i) k) e ∙ cell-totals_of keys items rows found i k h g;
+}
+
+cut-totals : (keys : List ℕ) (items : List Aggregate) (rows found : List Row) (totals : List Value) → AreTotals keys items rows found totals
+    → cut (length items) (length found) totals ≡ map (totals_of keys items rows) found
+cut-totals keys items rows found totals all =
+    ext_get_or [] (cut (length items) (length found) totals) (map (totals_of keys items rows) found)
+    (length-cut (length items) (length found) totals ∙ sym (length-map found (totals_of keys items rows)))
+    (λ i h. row i (omega (arith, length-cut (length items) (length found) totals)))
+  where
+    wide : (i : ℕ) → i < length found → length (row_at (cut (length items) (length found) totals) i) ≡ length items
+    wide i h = cut-wide (length items) (length found) totals all.whole i [] (omega (arith, length-cut (length items) (length found) totals))
+
+    row : (i : ℕ) → i < length found → row_at (cut (length items) (length found) totals) i ≡ row_at (map (totals_of keys items rows) found) i
+    row i h =
+        ext_get_or value.Null (row_at (cut (length items) (length found) totals) i) (row_at (map (totals_of keys items rows) found) i)
+        (wide i h ∙ sym (ap length (get_or-map (totals_of keys items rows) found i [] [] h) ∙ length-map items (aggregate_of (rows_with keys (row_at found i) rows))))
+        (λ k g. let inside : k < length items = omega (arith, wide i h) in
+        cut-cell (length items) (length found) totals i k h inside ∙ all.each i k h inside ∙ sym (cell-totals_of keys items rows found i k h inside))
+
+-- what is kept is the groups of the rows, where their keys and aggregates are
+pub grouped-from : (keys : List ℕ) (items : List Aggregate) (rows found : List Row) (totals : List Value) → found ≡ found_keys keys rows → AreTotals keys items rows found totals
+    → side_by_side found (cut (length items) (length found) totals) ≡ grouped keys items rows
+grouped-from keys items rows found totals e all =
+    ap (side_by_side found) (cut-totals keys items rows found totals all)
+    ∙ ap (λ ks. side_by_side ks (map (totals_of keys items rows) ks)) e ∙ sym (grouped-side_by_side keys items rows)
+
+-- and the other way round
+pub record AreGroups (keys : List ℕ) (items : List Aggregate) (rows found : List Row) (totals : List Value) : Type 0 where
+  pub found_all : found ≡ found_keys keys rows
+  pub totalled : AreTotals keys items rows found totals
+
+pub AreGroups-from : (keys : List ℕ) (items : List Aggregate) (rows found : List Row) (totals : List Value) → All (HasWidth (length keys)) found
+    → length totals ≡ length found * length items → side_by_side found (cut (length items) (length found) totals) ≡ grouped keys items rows → AreGroups keys items rows found totals
+AreGroups-from keys items rows found totals wide whole e =
+    let parts = side_by_side-parts (length keys) found (found_keys keys rows) (cut (length items) (length found) totals) (map (totals_of keys items rows) (found_keys keys rows))
+    (recursion_from_All (HasWidth (length keys)) found wide) (found_keys-wide keys rows)
+    (length-cut (length items) (length found) totals) (length-map (found_keys keys rows) (totals_of keys items rows))
+    (e ∙ grouped-side_by_side keys items rows) in
+    record {
+      found_all = parts.0;
+      totalled = AreTotals-from keys items rows found totals whole (parts.1 ∙ ap (map (totals_of keys items rows)) (sym parts.0));
+    }
+
+-- ---- one more row
+
+-- a group's aggregates stand before those of a later one
+pub group_before : (width i n : ℕ) → i < n → i * width + width ≤ n * width
+group_before width i n h = omega (arith, next i, mul-le-mul_right {m = suc i} {n = n} width (omega arith))
+  where
+    next : (j : ℕ) → suc j * width ≡ j * width + width
+    next j = grind arith
+
+-- of a group that is there
+pub AreGroups-old : (keys : List ℕ) (items : List Aggregate) (rows found : List Row) (totals changed : List Value) (row : Row) (n : ℕ) → AreGroups keys items rows found totals
+    → AllPairs (λ a b. a ≢ b) found → number_of (pick keys row) found ≡ Some n → IsAdded row items (n * length items) totals changed → AreGroups keys items (rows ++ row ∷ []) found changed
+AreGroups-old keys items rows found totals changed row n groups different at added = record {
+  found_all = sym (entered-old (pick keys row) found n at) ∙ ap (entered (pick keys row)) groups.found_all ∙ found_keys-more keys rows row;
+  totalled = record { whole = added.length_kept ∙ groups.totalled.whole; each = each };
+}
+  where
+    there : (n < length found) × (same_values (pick keys row) (row_at found n) ≡ true)
+    there = let p = position-Some (same_values (pick keys row)) found n [] at in (p.0, p.1)
+
+    same : pick keys row ≡ row_at found n
+    same = (same_values_equal (pick keys row) (row_at found n)).0 there.1
+
+    each : (i k : ℕ) → i < length found → k < length items
+        → cell changed (i * length items + k) ≡ aggregate_of (rows_with keys (row_at found i) (rows ++ row ∷ [])) (item_at items k)
+    each i k h g =
+        let item : Aggregate = item_at items k in
+        elim (cases_order i n) [
+          | inl e ↦
+              ap (λ j. cell changed (j * length items + k)) e ∙ added.changed k g ∙ ap (with_row row item) (groups.totalled.each n k there.0 g)
+              ∙ sym (total-same keys item rows row (row_at found n) ((same_values_equal (row_at found n) (pick keys row)).1 (sym same)))
+              ∙ ap (λ j. aggregate_of (rows_with keys (row_at found j) (rows ++ row ∷ [])) item) (sym e)
+          | inr (inl before) ↦
+              added.others (i * length items + k) (inl (omega (arith, group_before (length items) i n before))) ∙ groups.totalled.each i k h g
+              ∙ sym (total-other keys item rows row (row_at found i) (λ e. different i n [] before there.0 (e ∙ same)))
+          | inr (inr after) ↦
+              added.others (i * length items + k) (inr (omega (arith, group_before (length items) n i after))) ∙ groups.totalled.each i k h g
+              ∙ sym (total-other keys item rows row (row_at found i) (λ e. different n i [] after h (sym (e ∙ same))))
+        ]
+
+-- of a new group
+pub AreGroups-new : (keys : List ℕ) (items : List Aggregate) (rows found : List Row) (totals : List Value) (row : Row) → AreGroups keys items rows found totals
+    → number_of (pick keys row) found ≡ None
+    → AreGroups keys items (rows ++ row ∷ []) (found ++ pick keys row ∷ []) (totals ++ map (λ item. with_row row item (aggregate_of [] item)) items)
+AreGroups-new keys items rows found totals row groups absent = record {
+  found_all = sym (entered-new key found absent) ∙ ap (entered key) groups.found_all ∙ found_keys-more keys rows row;
+  totalled = record { whole = whole; each = each };
+}
+  where
+    key : Row
+    key = pick keys row
+
+    first : List Value
+    first = map (λ item. with_row row item (aggregate_of [] item)) items
+
+    whole : length (totals ++ first) ≡ length (found ++ key ∷ []) * length items
+    whole =
+        length-append totals first ∙ ap (λ n. n + length first) groups.totalled.whole ∙ ap (λ n. length found * length items + n) (length-map items (λ item. with_row row item (aggregate_of [] item)))
+        ∙ next (length found) ∙ ap (λ n. n * length items) (sym (length_push found key))
+      where
+        next : (n : ℕ) → n * length items + length items ≡ (n + 1) * length items
+        next n = grind arith
+
+    each : (i k : ℕ) → i < length (found ++ key ∷ []) → k < length items
+        → cell (totals ++ first) (i * length items + k) ≡ aggregate_of (rows_with keys (row_at (found ++ key ∷ []) i) (rows ++ row ∷ [])) (item_at items k)
+    each i k h g =
+        let item : Aggregate = item_at items k in
+        elim (cases_lt i (length found)) [
+          | inl before ↦
+              get_or_append_left totals first value.Null (i * length items + k) (omega (arith, groups.totalled.whole, group_before (length items) i (length found) before))
+              ∙ groups.totalled.each i k before g ∙ sym (total-other keys item rows row (row_at found i) (absent_nowhere key found absent i before))
+              ∙ ap (λ r. aggregate_of (rows_with keys r (rows ++ row ∷ [])) item) (sym (get_or_append_left found (key ∷ []) [] i before))
+          | inr past ↦ let last : i ≡ length found = omega (arith, length_push found key) in
+              ap (λ j. cell (totals ++ first) (j * length items + k)) last ∙ ap (λ n. cell (totals ++ first) (n + k)) (sym groups.totalled.whole)
+              ∙ get_or-append-add totals first k value.Null ∙ get_or-map (λ a. with_row row a (aggregate_of [] a)) items k aggregate.CountAll value.Null g
+              ∙ ap (λ some. with_row row item (aggregate_of some item)) (sym (rows_with-none keys rows row (ap (number_of key) (sym groups.found_all) ∙ absent)))
+              ∙ sym (total-same keys item rows row key ((same_values_equal key key).1 refl))
+              ∙ ap (λ r. aggregate_of (rows_with keys r (rows ++ row ∷ [])) item) (sym (get_or_at found key [] [] i (sym last)))
+        ]
+
+-- ---- what is kept
+
+pub length-groups : (width : ℕ) (found : List Row) (totals : List Value) → length (side_by_side found (cut width (length found) totals)) ≡ length found
+length-groups width found totals = length-side_by_side found (cut width (length found) totals) (length-cut width (length found) totals)
+
+group_is : (width : ℕ) (found : List Row) (totals : List Value) (n : ℕ) → n < length found
+    → row_at (side_by_side found (cut width (length found) totals)) n ≡ row_at found n ++ row_at (cut width (length found) totals) n
+group_is width found totals n h = get_or-side_by_side found (cut width (length found) totals) n h (length-cut width (length found) totals)
+
+-- a group's cells are those of its key, and then its aggregates
+pub cell-key : (width w : ℕ) (found : List Row) (totals : List Value) (n column : ℕ) → All (HasWidth width) found → n < length found → column < width
+    → cell (row_at (side_by_side found (cut w (length found) totals)) n) column ≡ cell (row_at found n) column
+cell-key width w found totals n column wide h g =
+    ap (λ row. cell row column) (group_is w found totals n h)
+    ∙ get_or_append_left (row_at found n) (row_at (cut w (length found) totals) n) value.Null column (omega (arith, wide n [] h))
+
+pub cell-total : (width w : ℕ) (found : List Row) (totals : List Value) (n column : ℕ) → All (HasWidth width) found → n < length found → width ≤ column → column < width + w
+    → cell (row_at (side_by_side found (cut w (length found) totals)) n) column ≡ cell totals (n * w + (column - width))
+cell-total width w found totals n column wide h low high =
+    ap (λ row. cell row column) (group_is w found totals n h)
+    ∙ get_or-append_right (row_at found n) (row_at (cut w (length found) totals) n) width column value.Null (wide n [] h) low
+    ∙ cut-cell w (length found) totals n (column - width) h (omega arith)
+
+-- of no rows
+pub AreGroups-none : (key : ℕ) (keys : List ℕ) (items : List Aggregate) → AreGroups (key ∷ keys) items [] [] []
+AreGroups-none key keys items = record { found_all = refl; totalled = record { whole = omega arith; each = λ i k h g. absurd (omega arith) } }
+
+pub AreGroups-one : (items : List Aggregate) → AreGroups [] items [] ([] ∷ []) (map (aggregate_of []) items)
+AreGroups-one items = record {
+  found_all = refl;
+  totalled = record { whole = length-map items (aggregate_of []) ∙ omega arith; each = each };
+}
+  where
+    none : (n : ℕ) → 0 * n ≡ 0
+    none n = grind arith
+
+    each : (i k : ℕ) → i < 1 → k < length items → cell (map (aggregate_of []) items) (i * length items + k) ≡ aggregate_of (rows_with [] (row_at ([] ∷ []) i) []) (item_at items k)
+    each zero k h g =
+        ap (λ n. cell (map (aggregate_of []) items) (n + k)) (none (length items)) ∙ ap (cell (map (aggregate_of []) items)) (omega arith)
+        ∙ get_or-map (aggregate_of []) items k aggregate.CountAll value.Null g
+    each (suc i) k h g = absurd (omega arith)
+
+-- a new key, from what was entered and pushed
+pub AreGroups-started : (keys : List ℕ) (items : List Aggregate) (rows found more : List Row) (totals changed : List Value) (row : Row) → number_of (pick keys row) found ≡ None
+    → more ≡ entered (pick keys row) found → changed ≡ totals ++ map (λ item. with_row row item (aggregate_of [] item)) items → AreGroups keys items rows found totals
+    → AreGroups keys items (rows ++ row ∷ []) more changed
+AreGroups-started keys items rows found more totals changed row absent put pushed groups =
+    rw (put ∙ entered-new (pick keys row) found absent, pushed) (AreGroups-new keys items rows found totals row groups absent)
+
+-- ---- the state
+
+abbrev pub state_of : List ℕ → List Aggregate → List Row → List Value → Bool → ℕ → GroupState
+state_of keys items found totals closed handed =
+    record { keys = keys; items = items; groups = side_by_side found (cut (length items) (length found) totals); closed = closed; handed = handed }
+
+-- after a row that was taken
+pub state_of-more : (keys : List ℕ) (items : List Aggregate) (found more : List Row) (totals changed : List Value) (closed : Bool) (handed : ℕ) (row : Row) (state : GroupState)
+    → state_of keys items found totals closed handed ≡ state → All (HasWidth (length keys)) found → length totals ≡ length found * length items
+    → ((rows : List Row) → AreGroups keys items rows found totals → AreGroups keys items (rows ++ row ∷ []) more changed)
+    → (rows : List Row) → IsOf state rows → state_of keys items more changed closed handed ≡ record state { groups = grouped state.keys state.items (rows ++ row ∷ []) }
+state_of-more keys items found more totals changed closed handed row state e wide whole step =
+    subst (λ (s : GroupState). (rows : List Row) → IsOf s rows → state_of keys items more changed closed handed ≡ record s { groups = grouped s.keys s.items (rows ++ row ∷ []) }) e
+    (λ rows is. let groups = step rows (AreGroups-from keys items rows found totals wide whole is) in
+    ap (λ (gs : List Row). record { keys = keys; items = items; groups = gs; closed = closed; handed = handed })
+    (grouped-from keys items (rows ++ row ∷ []) more changed groups.found_all groups.totalled))
+
+-- a group's aggregates can take one more row
+pub HasRoom-group : (keys : List ℕ) (items : List Aggregate) (rows found : List Row) (totals : List Value) (row : Row) (n : ℕ) → AreGroups keys items rows found totals → n < length found
+    → AreFew items (rows ++ row ∷ []) → (k : ℕ) → k < length items → HasRoom row (item_at items k) (cell totals (n * length items + k))
+HasRoom-group keys items rows found totals row n groups h few k g =
+    subst (HasRoom row (item_at items k)) (sym (groups.totalled.each n k h g))
+    (HasRoom-some (λ r. same_values (row_at found n) (pick keys r)) (item_at items k) rows row few.few (few.summable k aggregate.CountAll g))
+
+-- the key of a number is there
+pub number_within : (key : Row) (found : List Row) (n : ℕ) → number_of key found ≡ Some n → n < length found
+number_within key found n at = (position-Some (same_values key) found n [] at).0
+
+-- of no rows: one group without columns, and none with some
+pub grouped-one : (keys : List ℕ) (items : List Aggregate) (found : List Row) (totals : List Value) → keys ≡ [] → found ≡ [] ∷ [] → totals ≡ map (aggregate_of []) items
+    → side_by_side found (cut (length items) (length found) totals) ≡ grouped keys items []
+grouped-one keys items found totals none one all =
+    rw (none, one, all) (let groups = AreGroups-one items in grouped-from [] items [] ([] ∷ []) (map (aggregate_of []) items) groups.found_all groups.totalled)
+
+pub grouped-none : (keys : List ℕ) (items : List Aggregate) (found : List Row) (totals : List Value) → 0 < length keys → found ≡ [] → side_by_side found (cut (length items) (length found) totals) ≡ grouped keys items []
+grouped-none [] items found totals some none = absurd (omega arith)
+grouped-none (key ∷ keys) items found totals some none = ap (λ ks. side_by_side ks (cut (length items) (length ks) totals)) none
+
+-- what is kept of one more group
+pub IsKept-started : (keys : List ℕ) (items : List Aggregate) (table next : KeyList) (totals pushed : List Value) (handed : ℕ) (key : Row) (first : List Value) → IsKept keys items table totals handed
+    → number_of key table.keys ≡ None → next.width ≡ table.width → next.keys ≡ entered key table.keys → pushed ≡ totals ++ first → length first ≡ length items → IsKept keys items next pushed handed
+IsKept-started keys items table next totals pushed handed key first kept absent wide put longer e =
+    let more : length next.keys ≡ length table.keys + 1 = ap length (put ∙ entered-new key table.keys absent) ∙ length_push table.keys key in
+    record {
+      width = wide ∙ kept.width;
+      whole = ap length longer ∙ length-append totals first ∙ ap (λ n. n + length first) kept.whole ∙ ap (λ n. length table.keys * length items + n) e
+          ∙ step (length table.keys) (length items) ∙ ap (λ n. n * length items) (sym more);
+      few = kept.few;
+      within = omega (arith, kept.within, more);
+    }
+  where
+    step : (n w : ℕ) → n * w + w ≡ (n + 1) * w
+    step n w = grind arith

@@ -1,0 +1,4 @@
+pub mod SortedNumbers
+pub mod SortState
+pub mod Totals
+pub mod GroupState
