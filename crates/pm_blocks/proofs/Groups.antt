@@ -1,5 +1,5 @@
 -- the groups of rows, and what one more row changes of them
-use Rattle.std.proofs.Common.{◌≡◌, ℕ, suc, zero, ◌+◌, ◌-◌, ◌*◌, ◌<◌, ◌≤◌, inl, inr, Bool, true, false, List, [], ◌∷◌, ◌++◌, length, map, filter, take, drop, get_or, None, Some, refl, ap, sym, ◌∙◌, subst, arith, append-nil}
+use Rattle.std.proofs.Common.{◌≡◌, ℕ, suc, zero, ◌+◌, ◌-◌, ◌*◌, ◌<◌, ◌≤◌, inl, inr, Bool, true, false, List, [], ◌∷◌, ◌++◌, length, map, filter, take, drop, get_or, None, Some, refl, ap, sym, ◌∙◌, subst, arith, append-nil, set}
 use Rattle.std.specs.Prelude.{◌≢◌, All, AllPairs}
 use Rattle.std.specs.List.{AllByRecursion, list_any}
 use Rattle.std.proofs.Math.Nat.{mul-le-mul_right}
@@ -13,7 +13,7 @@ use Rattle.pm_values.specs.declared.value.Value.TheVariants as value
 use Rattle.pm_values.specs.Row.{Row, cell, pick}
 use Rattle.pm_values.specs.Equality.{same_values}
 use Rattle.pm_values.specs.Keys.{different_keys, once}
-use Rattle.pm_values.proofs.KeyCounts.{different_keys_are_its_keys}
+use Rattle.pm_values.proofs.KeyCounts.{different_keys_are_its_keys, different_keys_differ}
 use Rattle.pm_values.proofs.ValueOrder.{same_values_equal}
 use Rattle.pm_keys.specs.Cuts.{cut}
 use Rattle.pm_keys.specs.Numbers.{KeyList, number_of, entered, HasWidth}
@@ -24,10 +24,10 @@ use Rattle.pm_keys.proofs.Found.{absent_nowhere}
 use Rattle.pm_plan.specs.declared.plan.Aggregate.{Aggregate}
 use Rattle.pm_plan.specs.declared.plan.Aggregate.TheVariants as aggregate
 use Rattle.pm_plan.specs.Joins.{keys_of}
-use Rattle.pm_plan.specs.Grouping.{aggregate_of, group_keys, grouped}
+use Rattle.pm_plan.specs.Grouping.{aggregate_of, group_keys, grouped, group_row}
 use Rattle.pm_plan.proofs.Appends.{one_if, rows_of_key-more}
 use Rattle.pm_blocks.specs.SortedNumbers.{row_at}
-use Rattle.pm_blocks.specs.GroupState.{GroupState, IsOf, IsKept, side_by_side}
+use Rattle.pm_blocks.specs.GroupState.{GroupState, IsOf, IsKept, side_by_side, found_keys}
 use Rattle.pm_blocks.specs.Totals.{item_at, with_row, IsAdded, HasRoom, AreFew}
 use Rattle.pm_blocks.proofs.Aggregates.{aggregate_of-more, filter-all, HasRoom-some}
 use Rattle.pm_blocks.proofs.Sorts.{filter-none}
@@ -68,11 +68,6 @@ side_by_side-parts width (key ∷ keys) (k ∷ ks) (total ∷ totals) (t ∷ ts)
     (ap (λ r. r ∷ keys) same ∙ ap (λ rs. k ∷ rs) rest.0, ap (λ r. r ∷ totals) beside ∙ ap (λ rs. t ∷ rs) rest.1)
 
 -- ---- the keys that were found
-
--- the different keys of the rows, and the empty one alone where there are no columns
-abbrev pub found_keys : List ℕ → List Row → List Row
-found_keys [] rows = [] ∷ []
-found_keys (key ∷ keys) rows = group_keys (key ∷ keys) rows
 
 once-all : (P : Row → Type 0) (same : Row → Row → Bool) (xs : List Row) → AllByRecursion P xs → AllByRecursion P (once same xs)
 once-all P same [] all = tt
@@ -386,3 +381,72 @@ IsKept-started keys items table next totals pushed handed key first kept absent 
   where
     step : (n w : ℕ) → n * w + w ≡ (n + 1) * w
     step n w = grind arith
+
+-- ---- one more row of the definition
+
+grouped-map : (keys : List ℕ) (items : List Aggregate) (rows : List Row) → grouped keys items rows ≡ map (group_row keys items rows) (found_keys keys rows)
+grouped-map [] items rows = grouped-side_by_side [] items rows
+grouped-map (key ∷ keys) items rows = refl
+
+group_row-other : (keys : List ℕ) (items : List Aggregate) (rows : List Row) (row key : Row) → key ≢ pick keys row → group_row keys items (rows ++ row ∷ []) key ≡ group_row keys items rows key
+group_row-other keys items rows row key differ = ap (λ totals. key ++ totals) (same items)
+  where
+    same : (some : List Aggregate) → totals_of keys some (rows ++ row ∷ []) key ≡ totals_of keys some rows key
+    same [] = refl
+    same (item ∷ some) = ap (λ total. total ∷ totals_of keys some (rows ++ row ∷ []) key) (total-other keys item rows row key differ) ∙ ap (λ rest. aggregate_of (rows_with keys key rows) item ∷ rest) (same some)
+
+group_rows-others : (keys : List ℕ) (items : List Aggregate) (rows : List Row) (row : Row) (some : List Row) → ((i : ℕ) → i < length some → row_at some i ≢ pick keys row)
+    → map (group_row keys items (rows ++ row ∷ [])) some ≡ map (group_row keys items rows) some
+group_rows-others keys items rows row [] differ = refl
+group_rows-others keys items rows row (key ∷ some) differ =
+    ap (λ first. first ∷ map (group_row keys items (rows ++ row ∷ [])) some) (group_row-other keys items rows row key (differ 0 (omega arith)))
+    ∙ ap (λ rest. group_row keys items rows key ∷ rest) (group_rows-others keys items rows row some (λ i h. differ (suc i) (omega arith)))
+
+-- a new key puts a group at the end
+pub grouped-new : (keys : List ℕ) (items : List Aggregate) (rows : List Row) (row : Row) → number_of (pick keys row) (found_keys keys rows) ≡ None
+    → grouped keys items (rows ++ row ∷ []) ≡ grouped keys items rows ++ group_row keys items (rows ++ row ∷ []) (pick keys row) ∷ []
+grouped-new keys items rows row absent =
+    let key : Row = pick keys row in
+    let more = group_row keys items (rows ++ row ∷ []) in
+    grouped-map keys items (rows ++ row ∷ [])
+    ∙ ap (map more) (sym (found_keys-more keys rows row) ∙ entered-new key (found_keys keys rows) absent)
+    ∙ map_push more (found_keys keys rows) key
+    ∙ ap (λ some. some ++ more key ∷ []) (group_rows-others keys items rows row (found_keys keys rows) (absent_nowhere key (found_keys keys rows) absent) ∙ sym (grouped-map keys items rows))
+
+-- a key that is there changes its group alone
+set-map : (f h : Row → Row) (keys : List Row) (n : ℕ) → n < length keys → ((i : ℕ) → i < length keys → i ≢ n → f (row_at keys i) ≡ h (row_at keys i)) → map f keys ≡ set (map h keys) n (f (row_at keys n))
+set-map f h [] n within same = absurd (omega arith)
+set-map f h (key ∷ keys) zero within same = ap (λ rest. f key ∷ rest) (others keys (λ i h. same (suc i) (omega arith) (λ e. absurd (omega (arith, e)))))
+  where
+    others : (some : List Row) → ((i : ℕ) → i < length some → f (row_at some i) ≡ h (row_at some i)) → map f some ≡ map h some
+    others [] all = refl
+    others (k ∷ some) all = ap (λ first. first ∷ map f some) (all 0 (omega arith)) ∙ ap (λ rest. h k ∷ rest) (others some (λ i g. all (suc i) (omega arith)))
+set-map f h (key ∷ keys) (suc n) within same =
+    ap (λ first. first ∷ map f keys) (same 0 (omega arith) (λ e. absurd (omega (arith, e))))
+    ∙ ap (λ rest. h key ∷ rest) (set-map f h keys n (omega arith) (λ i g differ. same (suc i) (omega arith) (λ e. differ (omega (arith, e)))))
+
+found_keys-differ : (keys : List ℕ) (rows : List Row) → AllPairs (λ a b. a ≢ b) (found_keys keys rows)
+found_keys-differ [] rows = λ i j d h g. absurd (omega arith)
+found_keys-differ (key ∷ keys) rows = different_keys_differ (keys_of (key ∷ keys) rows)
+
+pub grouped-old : (keys : List ℕ) (items : List Aggregate) (rows : List Row) (row : Row) (n : ℕ) → number_of (pick keys row) (found_keys keys rows) ≡ Some n
+    → grouped keys items (rows ++ row ∷ []) ≡ set (grouped keys items rows) n (group_row keys items (rows ++ row ∷ []) (pick keys row))
+grouped-old keys items rows row n at =
+    let key : Row = pick keys row in
+    let found : List Row = found_keys keys rows in
+    let more = group_row keys items (rows ++ row ∷ []) in
+    let there = position-Some (same_values key) found n [] at in
+    let same : key ≡ row_at found n = (same_values_equal key (row_at found n)).0 there.1 in
+    grouped-map keys items (rows ++ row ∷ [])
+    ∙ ap (map more) (sym (found_keys-more keys rows row) ∙ entered-old key found n at)
+    ∙ set-map more (group_row keys items rows) found n there.0
+    (λ i h differ. group_row-other keys items rows row (row_at found i) (λ e. apart found n i there.0 h differ (found_keys-differ keys rows) (e ∙ same)))
+    ∙ ap (λ k. set (map (group_row keys items rows) found) n (more k)) (sym same) ∙ ap (λ some. set some n (more key)) (sym (grouped-map keys items rows))
+  where
+    apart : (found : List Row) (n i : ℕ) → n < length found → i < length found → i ≢ n → AllPairs (λ a b. a ≢ b) found → row_at found i ≡ row_at found n → ⊥
+    apart found n i g h differ all e =
+        elim (cases_order i n) [
+          | inl same ↦ differ same
+          | inr (inl before) ↦ all i n [] before g e
+          | inr (inr after) ↦ all n i [] after h (sym e)
+        ]

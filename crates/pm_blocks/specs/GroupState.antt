@@ -4,7 +4,7 @@ use Rattle.pm_values.specs.declared.value.Value.{Value}
 use Rattle.pm_values.specs.Row.{Row}
 use Rattle.pm_keys.specs.Numbers.{KeyList}
 use Rattle.pm_plan.specs.declared.plan.Aggregate.{Aggregate}
-use Rattle.pm_plan.specs.Grouping.{grouped}
+use Rattle.pm_plan.specs.Grouping.{group_keys, grouped}
 
 pub record GroupState : Type 0 where
   pub keys : List ℕ
@@ -18,6 +18,11 @@ pub record GroupState : Type 0 where
 -- the groups are those of these rows
 abbrev pub IsOf : GroupState → List Row → Type 0
 IsOf state rows = state.groups ≡ grouped state.keys state.items rows
+
+-- the different keys of the rows, and the empty one alone where there are no columns
+abbrev pub found_keys : List ℕ → List Row → List Row
+found_keys [] rows = [] ∷ []
+found_keys (key ∷ keys) rows = group_keys (key ∷ keys) rows
 
 -- each row of the first list, followed by its fellow in the second one
 abbrev pub side_by_side : List Row → List Row → List Row

@@ -2,3 +2,4 @@ pub mod SortedNumbers
 pub mod SortState
 pub mod Totals
 pub mod GroupState
+pub mod Worked

@@ -6,8 +6,11 @@
 mod group;
 mod laws;
 mod sort;
+#[cfg(test)]
+mod tests;
 mod totals;
+mod worked;
 
 pub use group::GroupCore;
-pub use laws::numbers_are_sorted;
+pub use laws::{groups_of_one_more_row, numbers_are_sorted};
 pub use sort::SortCore;
