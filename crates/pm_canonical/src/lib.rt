@@ -11,3 +11,4 @@ mod words;
 
 pub use printing::print;
 pub use read_back::canonical_text_is_read_back;
+pub use words::put_expr;

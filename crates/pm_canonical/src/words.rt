@@ -40,8 +40,9 @@ fn func_word(func: Func) -> &'static str
     }
 }
 
+/// Puts the canonical text of an expression at the end: function names in capitals, and names quoted where they have to be.
 #[tactic(auto, unfolding(crate::specs::Canon::canon_expr))]
-pub(crate) fn put_expr(out: &mut String, expr: &Expr) -> Result<(), AllocError>
+pub fn put_expr(out: &mut String, expr: &Expr) -> Result<(), AllocError>
     ensures { OnOk result (string_bytes out.new ≡ string_bytes out.old ++ canon_expr expr.now) }
 {
     match expr {

@@ -1,0 +1,10 @@
+pub mod Along
+pub mod Few
+pub mod Once
+pub mod Outcomes
+pub mod Positions
+pub mod Prefixes
+pub mod Shapes
+pub mod Splits
+pub mod Steps
+pub mod Texts

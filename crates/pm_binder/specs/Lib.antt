@@ -1,0 +1,10 @@
+pub mod Breaches
+pub mod Sources
+pub mod Names
+pub mod Kinds
+pub mod Conditions
+pub mod Conjuncts
+pub mod Grouping
+pub mod Bound
+pub mod Meaning
+pub mod Worked

@@ -1,0 +1,25 @@
+//! Binds a SELECT statement to the tables of a schema: `bind` gives the query with its names resolved exactly where the
+//! statement keeps the rules, and else the first breach of one with its place. The rules are in specs/, one file a group.
+#![tactic(auto)]
+
+mod binding;
+mod conditions;
+mod conjuncts;
+mod fault;
+mod grouping;
+mod joins;
+mod kinds;
+mod names;
+mod selection;
+mod sources;
+mod terms;
+#[cfg(test)]
+mod tests;
+mod worked;
+
+pub use binding::bind;
+pub use fault::BindBad;
+pub use worked::{
+    grouping_worked, joins_worked, kinds_worked, names_worked, queries_worked, rows_worked,
+    sources_worked,
+};
