@@ -3,7 +3,7 @@ use Rattle.pm_lexer.specs.Symbol.{symbol_of, same_symbol, reserved_word, canonic
 use Rattle.pm_lexer.specs.Pieces.{quotation, single_quotes}
 use Rattle.pm_lexer.specs.Head.{head_of, number_at, named_at, sign_at}
 use Rattle.pm_lexer.specs.Head.{name_at as word_at}
-use Rattle.pm_lexer.specs.Tokens.{tokens_of, tokens_behind}
+use Rattle.pm_lexer.specs.Tokens.{tokens_of, tokens_after}
 use Rattle.pm_grammar.specs.Reading.{list_at, more_at, name_at}
 use Rattle.pm_syntax.specs.Terminals.{func_named}
 use Rattle.pm_syntax.specs.Reading.{column_after, column_at, call_after, expr_after, expr_at, literal_at, term_at, operand_at, literals_at, compare_after, null_after, in_after, between_after, range_after, test_after, test_at, ands_at, cond_at, part_peek, part_at, condition_at, given_at, item_at, items_at, link_at, join_condition_at, on_at, source_at, sources_at, where_at, having_at, groups_at, direction_at, key_at, orders_at, select_at}
@@ -19,13 +19,13 @@ use Rattle.pm_binder.proofs.Texts.{lexed, select_of, binds}
 use Rattle.pm_binder.proofs.worked.joins_worked.Goals as goal
 
 pub returns-clause-none : goal.returns-clause-none
-unfolding tokens_of tokens_behind head_of word_at number_at named_at sign_at quotation single_quotes reserved_word canonical_sign symbol_of same_symbol list_at more_at func_named name_at column_after column_at call_after expr_after expr_at literal_at term_at operand_at literals_at compare_after null_after in_after between_after range_after test_after test_at ands_at cond_at part_peek part_at condition_at given_at item_at items_at link_at join_condition_at on_at source_at sources_at where_at having_at groups_at direction_at key_at orders_at select_at lexed select_of name_breaches canon_expr canon_column
+unfolding tokens_of tokens_after head_of word_at number_at named_at sign_at quotation single_quotes reserved_word canonical_sign symbol_of same_symbol list_at more_at func_named name_at column_after column_at call_after expr_after expr_at literal_at term_at operand_at literals_at compare_after null_after in_after between_after range_after test_after test_at ands_at cond_at part_peek part_at condition_at given_at item_at items_at link_at join_condition_at on_at source_at sources_at where_at having_at groups_at direction_at key_at orders_at select_at lexed select_of name_breaches canon_expr canon_column
 returns-clause-none c = binds (codes "SELECT o.id FROM ord o, cust c") (Err (bad.NoJoinKey 24)) refl refl refl
 
 pub returns-clause-unequal : goal.returns-clause-unequal
-unfolding tokens_of tokens_behind head_of word_at number_at named_at sign_at quotation single_quotes reserved_word canonical_sign symbol_of same_symbol list_at more_at func_named name_at column_after column_at call_after expr_after expr_at literal_at term_at operand_at literals_at compare_after null_after in_after between_after range_after test_after test_at ands_at cond_at part_peek part_at condition_at given_at item_at items_at link_at join_condition_at on_at source_at sources_at where_at having_at groups_at direction_at key_at orders_at select_at lexed select_of name_breaches canon_expr canon_column
+unfolding tokens_of tokens_after head_of word_at number_at named_at sign_at quotation single_quotes reserved_word canonical_sign symbol_of same_symbol list_at more_at func_named name_at column_after column_at call_after expr_after expr_at literal_at term_at operand_at literals_at compare_after null_after in_after between_after range_after test_after test_at ands_at cond_at part_peek part_at condition_at given_at item_at items_at link_at join_condition_at on_at source_at sources_at where_at having_at groups_at direction_at key_at orders_at select_at lexed select_of name_breaches canon_expr canon_column
 returns-clause-unequal c = binds (codes "SELECT o.id FROM ord o JOIN cust c ON o.cust < c.id") (Err (bad.NoJoinKey 28)) refl refl (simp (fold_compare, cond_compare))
 
 pub returns-clause-left_side : goal.returns-clause-left_side
-unfolding tokens_of tokens_behind head_of word_at number_at named_at sign_at quotation single_quotes reserved_word canonical_sign symbol_of same_symbol list_at more_at func_named name_at column_after column_at call_after expr_after expr_at literal_at term_at operand_at literals_at compare_after null_after in_after between_after range_after test_after test_at ands_at cond_at part_peek part_at condition_at given_at item_at items_at link_at join_condition_at on_at source_at sources_at where_at having_at groups_at direction_at key_at orders_at select_at lexed select_of name_breaches canon_expr canon_column
+unfolding tokens_of tokens_after head_of word_at number_at named_at sign_at quotation single_quotes reserved_word canonical_sign symbol_of same_symbol list_at more_at func_named name_at column_after column_at call_after expr_after expr_at literal_at term_at operand_at literals_at compare_after null_after in_after between_after range_after test_after test_at ands_at cond_at part_peek part_at condition_at given_at item_at items_at link_at join_condition_at on_at source_at sources_at where_at having_at groups_at direction_at key_at orders_at select_at lexed select_of name_breaches canon_expr canon_column
 returns-clause-left_side c = binds (codes "SELECT o.id FROM cust c LEFT JOIN ord o ON o.cust = c.id AND c.name = 'Ann'") (Err (bad.LeftOn 34)) refl refl (simp (fold_all, fold_compare, cond_compare))
