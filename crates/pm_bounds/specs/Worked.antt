@@ -4,7 +4,7 @@ use Rattle.pm_plan.specs.declared.gauge.Bound.{Bound}
 use Rattle.pm_plan.specs.declared.gauge.Whole.{Whole}
 use Rattle.pm_plan.specs.Rows.{Db}
 use Rattle.pm_plan.specs.Tree.{Project, Method, Hash, Merge, Tree, Scan, Over, Join, Index}
-use Rattle.pm_plan.specs.Worked.{declared, integer_column, over, number, label, pair, flags, on, numbers, customer_rows, order_rows, ordered_customer_decl, ordered_order_decl}
+use Rattle.pm_plan.specs.Worked.{declared, integer_column, over, number, label, pair, flags, on, numbers, customer_decl, customer_rows, order_decl, order_rows, ordered_customer_decl, ordered_order_decl}
 use Rattle.pm_bounds.specs.Bounds.{whole_at}
 
 abbrev pub enclosed : ℕ → ℕ → ℕ → Whole
@@ -41,6 +41,10 @@ abbrev pub customers_looked_up : Tree
 customers_looked_up =
     Over (Project (1 ∷ 4 ∷ []))
     (Index (Scan 0 (label (codes "cust") (codes "c"))) (record { table = 1; label = label (codes "ord") (codes "o"); on = on (pair 0 1) (flags true false) }) None)
+
+-- customers, then no orders
+abbrev pub customers_without_orders : Db
+customers_without_orders = over customer_decl customer_rows ∷ over order_decl [] ∷ []
 
 -- the ordered tables, customers first
 abbrev pub ordered_customers_first : Db

@@ -7,7 +7,7 @@ ghost use Rattle.pm_work.specs.First.{first_bound};
 ghost use Rattle.pm_work.specs.Fits.{sizes_of};
 ghost use Rattle.pm_work.specs.Worked.{grouped_rows, hashed, sought_rows, merged_rows, counted, customers_from_two, keyless_join, total_join, padded_join};
 ghost use Rattle.pm_bounds.specs.Bounds.{bounds_of, whole_at};
-ghost use Rattle.pm_bounds.specs.Worked.{enclosed, bound, wholes, three_rows, three, customers_with, customers_looked_up, ordered_customers_first, ordered_keyless, keyless_merge, and_table, five_tables, first_column, two_keyed, unreferenced_join};
+ghost use Rattle.pm_bounds.specs.Worked.{enclosed, bound, wholes, three_rows, three, customers_with, customers_looked_up, ordered_customers_first, ordered_keyless, keyless_merge, and_table, five_tables, first_column, two_keyed, unreferenced_join, customers_without_orders};
 
 /// Where nothing is filtered or joined, the bounds are exact from the first event on.
 pub fn exact_bounds_worked()
@@ -72,4 +72,5 @@ pub fn matched_bounds_worked()
     ensures total { wholes referring_shop total_join (0 ∷ 1 ∷ []) ≡ enclosed 0 12 12 ∷ enclosed 1 12 12 ∷ [] }
     ensures unreferenced { wholes referring_shop unreferenced_join (0 ∷ 1 ∷ []) ≡ enclosed 0 6 12 ∷ enclosed 1 6 12 ∷ [] }
     ensures padded { wholes customers_first padded_join (0 ∷ 4 ∷ 5 ∷ []) ≡ enclosed 0 13 21 ∷ enclosed 4 13 19 ∷ enclosed 5 15 19 ∷ [] }
+    ensures unmatched { wholes customers_without_orders padded_join (0 ∷ 9 ∷ []) ≡ enclosed 0 9 9 ∷ enclosed 9 9 9 ∷ [] }
 {}
