@@ -81,6 +81,7 @@ data-written name fault P some h = of (data_line name fault) refl h
         lacks (bad.Field k l) e n = cc e
         lacks (bad.DoubleKey k l) e n = cc e
         lacks (bad.OutOfOrder k) e n = cc e
+        lacks (bad.NoTarget k l) e n = cc e
         lacks bad.Memory e n = n refl
     of (Some line) e q = (line, e, q)
 

@@ -54,6 +54,7 @@ data_line name (bad.Width at) = Some (refusal_line 5 word.Width (Some name) (One
 data_line name (bad.Field at column) = Some (refusal_line 5 word.Field (Some name) (Two at column))
 data_line name (bad.DoubleKey a b) = Some (refusal_line 5 word.DoubleKey (Some name) (Two a b))
 data_line name (bad.OutOfOrder at) = Some (refusal_line 5 word.OutOfOrder (Some name) (One at))
+data_line name (bad.NoTarget at number) = Some (refusal_line 5 word.NoTarget (Some name) (Two at number))
 data_line name bad.Memory = None
 
 -- want of memory has no line

@@ -175,6 +175,9 @@ fn put_data<S: Sink>(out: &mut S, name: &Txt, fault: DataBad) -> Result<(), Writ
             Values::Two(u128::from(first), u128::from(second)),
         ),
         DataBad::OutOfOrder(at) => (Word::OutOfOrder, Values::One(u128::from(at))),
+        DataBad::NoTarget(at, number) => {
+            (Word::NoTarget, Values::Two(u128::from(at), u128::from(number)))
+        }
         DataBad::Memory => return Ok(()),
     };
     put_refusal(out, 5, word, Some(name), values)

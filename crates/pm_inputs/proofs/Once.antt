@@ -17,8 +17,11 @@ use Rattle.pm_inputs.specs.declared.refusal.Refusal.{Refusal}
 use Rattle.pm_inputs.specs.declared.refusal.Refusal.TheVariants as refusal
 use Rattle.pm_inputs.specs.Texts.{GoesOn, Then, lexing_fault, IsFault, Shows, TextGives, SelectGives, SchemaGives, SelectText, SchemaText, syntax_fault, schema_fault}
 use Rattle.pm_inputs.specs.Chosen.{IsWhole, place_named, Chooses, chosen, ChosenGives}
-use Rattle.pm_inputs.specs.Calls.{FileRefuses, FileGives, refused, Refusing, too_long, text_limit, table_limit, most_records, SchemaFile, QueryFile, table_answer, TableGives, TableFile, PlacedFile, QueryPlace, FilesGive, Calls, IfAnswered, IfRefused}
+use Rattle.pm_inputs.specs.Calls.{FileRefuses, FileGives, refused, Refusing, too_long, text_limit, table_limit, SchemaFile, QueryFile, AnswerGives, TableGives, TableFile, PlacedFile, QueryPlace, FilesGive, Calls, IfAnswered, IfRefused}
 use Rattle.pm_inputs.specs.Stops.{OnReadFault}
+use Rattle.pm_values.specs.declared.limits.TheConstants.{MOST_RECORDS}
+use Rattle.pm_tables.specs.Loading.{Answer, Rows, Refused}
+use Rattle.pm_inputs.proofs.OwnReferences.{references_once}
 use Rattle.pm_syntax.proofs.WholeReading as syntax
 use Rattle.pm_schema.proofs.Called as schema
 use Rattle.pm_tables.proofs.Once as tables
@@ -105,8 +108,13 @@ chooses_once decls select a b (inr h) (inr k) = h.1 ∙ sym k.1
 chosen_once : (decls : List Declaration) (select : Select) → Once (ChosenGives decls select)
 chosen_once decls select a b h k = h.2 ∙ ap chosen (chooses_once decls select h.0 k.0 h.1 k.1) ∙ sym k.2
 
+answer_once : (place : ℕ) (decl : Declaration) (answer : Answer) → Once (AnswerGives place decl answer)
+answer_once place decl (Rows rows) a b h k = references_once place decl rows a b h k
+answer_once place decl (Refused e) a b h k = h ∙ sym k
+
 table_once : (place : ℕ) (decl : Declaration) (bytes : List ℕ) → Once (TableGives place decl bytes)
-table_once place decl bytes a b h k = h.2 ∙ ap (table_answer place decl) (tables.calls_once decl bytes most_records h.0 k.0 h.1 k.1) ∙ sym k.2
+table_once place decl bytes a b h k =
+    answer_once place decl k.0 a b (subst (λ answer. AnswerGives place decl answer a) (tables.calls_once decl bytes MOST_RECORDS h.0 k.0 h.1 k.1) h.2) k.2
 
 placed_once : (held : Held) (decls : List Declaration) (place : ℕ) → Once (PlacedFile held decls place)
 placed_once held decls place a b h k =

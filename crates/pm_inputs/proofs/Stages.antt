@@ -1,5 +1,5 @@
 -- What the stages of loading answer, together.
-use Rattle.std.proofs.Common.{◌≡◌, ◌≢◌, ◌≤◌, ◌⊎◌, ◌∙◌, ℕ, ap, List, [], ◌∷◌, length, get_or, Option, Some, None, Result, Ok, Err, refl, inl, inr, arith, slice_get}
+use Rattle.std.proofs.Common.{subst, ◌≡◌, ◌≢◌, ◌≤◌, ◌⊎◌, ◌∙◌, ℕ, ap, List, [], ◌∷◌, length, get_or, Option, Some, None, Result, Ok, Err, refl, inl, inr, arith, slice_get}
 use Rattle.std.specs.Prelude.{◌<◌, IfSome, IfErr}
 use Rattle.pm_io.specs.Files.{Held}
 use Rattle.pm_io.specs.Counts.{Rose}
@@ -13,7 +13,9 @@ use Rattle.pm_inputs.specs.declared.refusal.Role.TheVariants as role
 use Rattle.pm_inputs.specs.declared.refusal.Refusal.{Refusal}
 use Rattle.pm_inputs.specs.declared.refusal.Refusal.TheVariants as refusal
 use Rattle.pm_inputs.specs.Texts.{Then}
-use Rattle.pm_inputs.specs.Calls.{FileGives, IfRefused, IfAnswered, SchemaFile, QueryPlace, most_records, TableGives}
+use Rattle.pm_inputs.specs.Calls.{FileGives, IfRefused, IfAnswered, SchemaFile, QueryPlace, TableGives}
+use Rattle.pm_values.specs.declared.limits.TheConstants.{MOST_RECORDS}
+use Rattle.pm_inputs.specs.References.{ReferencesGive}
 use Rattle.pm_inputs.specs.Stops.{OnNoFile, StopsAt, IsFileOf, IsOfReading, IsOfTable, IsRead, ReachesFile}
 
 pub list_three : {A : Type 0} (xs : List A) (a b c : A) → 3 ≤ length xs → length xs < 4 → a ≡ get_or xs 0 a → b ≡ get_or xs 1 b → c ≡ get_or xs 2 c → xs ≡ a ∷ b ∷ c ∷ []
@@ -126,12 +128,13 @@ told_read_so (Some held) role name limit long next bytes out h n =
 
 -- ---- the bytes of a table's file
 
-pub table_called : (place : ℕ) (decl copy : Declaration) (bytes : List ℕ) (table : Relation) → copy ≡ decl → table.decl ≡ copy → IsTable copy bytes most_records table.rows → TableGives place decl bytes (Ok table)
-table_called place decl copy bytes table e d is =
-    let same : table ≡ record { decl = decl; rows = table.rows } = ap (λ (d : Declaration). let r : Relation = record { decl = d; rows = table.rows } in r) (d ∙ e) in
-    (Rows table.rows, rw e at is, ap Ok same)
+pub table_called : (place : ℕ) (decl copy : Declaration) (bytes : List ℕ) (table : Relation) (out : Result Relation Refusal) → copy ≡ decl → table.decl ≡ copy
+    → IsTable copy bytes MOST_RECORDS table.rows → IfAnswered (ReferencesGive place table.decl table.rows) out → IfAnswered (TableGives place decl bytes) out
+table_called place decl copy bytes table out e d is given =
+    answered_so (ReferencesGive place table.decl table.rows) (TableGives place decl bytes)
+    (λ out given. (Rows table.rows, rw e at is, subst (λ d. ReferencesGive place d table.rows out) (d ∙ e) given)) out given
 
-pub fault_called : (place : ℕ) (decl copy : Declaration) (bytes : List ℕ) (e : DataBad) (r : Refusal) → copy ≡ decl → e ≢ bad.Memory → (e ≡ bad.Memory) ⊎ Faults copy bytes most_records e → IfRefused (λ r. r ≡ refusal.Table place decl.name e) r
+pub fault_called : (place : ℕ) (decl copy : Declaration) (bytes : List ℕ) (e : DataBad) (r : Refusal) → copy ≡ decl → e ≢ bad.Memory → (e ≡ bad.Memory) ⊎ Faults copy bytes MOST_RECORDS e → IfRefused (λ r. r ≡ refusal.Table place decl.name e) r
     → IfRefused (λ r. TableGives place decl bytes (Err r)) r
 fault_called place decl copy bytes e r same some (inl none) so = absurd (some none)
 fault_called place decl copy bytes e r same some (inr faults) so =

@@ -1,6 +1,7 @@
 -- What the words and the files' bytes call for: a table, or the first refusal in the order of reading.
 use Rattle.std.specs.Prelude.{◌≡◌, ◌≢◌, ◌⊎◌, ◌<◌, ◌≤◌, ◌^◌, ℕ, List, [], ◌∷◌, length, codes, slice_get, Option, None, Some, Result, Ok, Err, IsSomeAnd}
 use Rattle.pm_values.specs.Table.{Declaration, Relation}
+use Rattle.pm_values.specs.declared.limits.TheConstants.{MOST_RECORDS}
 use Rattle.pm_io.specs.Files.{Held}
 use Rattle.pm_refusals.specs.declared.word.Word.TheVariants as word
 use Rattle.pm_syntax.specs.declared.tree.Select.{Select}
@@ -13,16 +14,14 @@ use Rattle.pm_inputs.specs.declared.refusal.Refusal.{Refusal}
 use Rattle.pm_inputs.specs.declared.refusal.Refusal.TheVariants as refusal
 use Rattle.pm_inputs.specs.Texts.{Then, SchemaText, SelectText}
 use Rattle.pm_inputs.specs.Chosen.{ChosenGives}
+use Rattle.pm_inputs.specs.References.{ReferencesGive}
 
--- the most bytes of a schema's or a query's file, and of a table's; the most records of a table
+-- the most bytes of a schema's or a query's file, and of a table's
 abbrev pub text_limit : ℕ
 text_limit = 65536
 
 abbrev pub table_limit : ℕ
 table_limit = 2 ^ 28
-
-abbrev pub most_records : ℕ
-most_records = 2 ^ 24
 
 -- ---- one file
 
@@ -56,13 +55,13 @@ SchemaFile held name = FileGives (held name) role.Schema name text_limit (refusa
 abbrev pub QueryFile : Held → List ℕ → Result Select Refusal → Type 0
 QueryFile held name = FileGives (held name) role.Query name text_limit (refusal.Query too_long) (Refusing refusal.Query SelectText)
 
--- the rows of the table at this place of the schema, or the refusal
-abbrev pub table_answer : ℕ → Declaration → Answer → Result Relation Refusal
-table_answer place decl (Rows rows) = Ok (record { decl = decl; rows = rows })
-table_answer place decl (Refused e) = Err (refusal.Table place decl.name e)
+-- what the rows of the table at this place of the schema call for, or what refuses its bytes
+abbrev pub AnswerGives : ℕ → Declaration → Answer → Result Relation Refusal → Type 0
+AnswerGives place decl (Rows rows) out = ReferencesGive place decl rows out
+AnswerGives place decl (Refused e) out = out ≡ Err (refusal.Table place decl.name e)
 
 abbrev pub TableGives : ℕ → Declaration → List ℕ → Result Relation Refusal → Type 0
-TableGives place decl bytes out = (answer : Answer) × CallsFor decl bytes most_records answer × (out ≡ table_answer place decl answer)
+TableGives place decl bytes out = (answer : Answer) × CallsFor decl bytes MOST_RECORDS answer × AnswerGives place decl answer out
 
 abbrev pub TableFile : Held → ℕ → Declaration → Result Relation Refusal → Type 0
 TableFile held place decl = FileGives (held decl.file) (role.Table place) decl.file table_limit (refusal.Table place decl.name bad.TooLong) (TableGives place decl)

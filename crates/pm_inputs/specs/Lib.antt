@@ -1,4 +1,5 @@
 pub mod Texts
 pub mod Chosen
+pub mod References
 pub mod Calls
 pub mod Stops

@@ -1,7 +1,7 @@
 //! The files that the words name, up to the loaded table.
 //!
-//! The order is: the words, the schema's file, the query's file, the table's file. The first that is not in order
-//! stops the loading.
+//! The order is: the words, the schema's file, the query's file, the table's file, the table's references to itself. The
+//! first that is not in order stops the loading.
 
 ghost use Rattle.std.specs.Prelude.{◌≡◌, ◌≢◌, ◌<◌, ◌≤◌, ◌^◌, ◌↔◌, ◌⊎◌, List, ℕ, length, Result, None, MatchOption, IfSome, IfOk, IfErr, IsErrOf, option_map};
 ghost use Rattle.pm_io.specs.declared.stand.Stand.TheVariants as stand;
@@ -13,10 +13,12 @@ ghost use Rattle.pm_inputs.specs.declared.refusal.Refusal.TheVariants as refusal
 ghost use Rattle.pm_inputs.specs.declared.refusal.Role.TheVariants as role;
 ghost use Rattle.pm_inputs.specs.Calls.{IsNoRun, IsRun, Calls, FilesGive, SchemaFile, QueryFile, QueryPlace, TableGives, TableFile, IfRefused, IfAnswered, HasFault};
 ghost use Rattle.pm_inputs.specs.Chosen.{ChosenGives};
+ghost use Rattle.pm_inputs.specs.References.{ReferencesGive};
 ghost use Rattle.pm_tables.specs.declared.fault.DataBad.TheVariants as bad;
 ghost use Rattle.pm_inputs.specs.Stops.{OnNoFile, OnReadFault, IfFile, StopsAt, IsFileOf, IsRead, IsOfReading, IsOfTable, ReachesFile, Reaches};
 
 use crate::chosen::chosen;
+use crate::references::check_own_references;
 use crate::refusal::{Refusal, Role};
 use crate::texts::{Fault, TextBad, schema_of, select_of};
 use pm_io::{Files, ReadOut, read_whole};
@@ -24,7 +26,7 @@ use pm_refusals::Word;
 use pm_schema::Schema;
 use pm_syntax::Select;
 use pm_tables::DataBad;
-use pm_values::{Table, TableDecl, Txt};
+use pm_values::{MOST_RECORDS, Table, TableDecl, Txt};
 use std::alloc::Global;
 
 /// The most bytes of a schema's or a query's file.
@@ -32,9 +34,6 @@ const TEXT_LIMIT: u64 = 65_536;
 
 /// The most bytes of a table's file.
 const TABLE_LIMIT: u64 = 1 << 28;
-
-/// The most records of a table.
-const MOST_RECORDS: u32 = 1 << 24;
 
 /// The refusal of a text that is longer than its limit.
 const TOO_LONG: Fault = Fault {
@@ -205,9 +204,21 @@ fn table_of(alloc: Global, place: u32, decl: &TableDecl, bytes: &[u8]) -> Result
     ensures own { IfErr result IsOfTable }
 {
     match pm_tables::load(alloc, decl.copy(alloc)?, bytes, MOST_RECORDS) {
-        Ok(table) => Ok(table),
+        Ok(table) => with_references(alloc, place, table),
         Err(DataBad::Memory) => Err(Refusal::NoMemory),
         Err(fault) => Err(refused_table(alloc, place, decl, fault)),
+    }
+}
+
+/// The loaded table, where its references to itself hold.
+fn with_references(alloc: Global, place: u32, table: Table) -> Result<Table, Refusal>
+    ensures called { IfAnswered (ReferencesGive place table.decl table.rows) result }
+    ensures own { IfErr result IsOfTable }
+{
+    match check_own_references(alloc, &table) {
+        Ok(()) => Ok(table),
+        Err(DataBad::Memory) => Err(Refusal::NoMemory),
+        Err(fault) => Err(refused_table(alloc, place, table.decl(), fault)),
     }
 }
 

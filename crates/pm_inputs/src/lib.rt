@@ -6,6 +6,7 @@
 
 pub mod chosen;
 pub mod files;
+mod references;
 pub mod refusal;
 #[cfg(test)]
 mod tests;

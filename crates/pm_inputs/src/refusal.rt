@@ -41,7 +41,8 @@ pub enum Refusal {
     /// The query's file is no SELECT statement.
     #[error("the query is refused")]
     Query(Fault),
-    /// The file of this table, counted by its place in the schema from 0, is no table of its declaration.
+    /// The file of this table, counted by its place in the schema from 0, is no table of its declaration, or a reference
+    /// of the table to itself does not hold.
     #[error("the file of the table {} is refused", .name.as_str())]
     Table {
         table: u32,
