@@ -15,7 +15,8 @@ use Rattle.pm_plan.specs.declared.plan.Aggregate.{Aggregate}
 use Rattle.pm_plan.specs.declared.plan.Aggregate.TheVariants as aggregate
 use Rattle.pm_plan.specs.Grouping.{column_values, plus, aggregate_of}
 use Rattle.pm_plan.proofs.Appends.{count_all-more, count-more, sum-more, min-more, max-more}
-use Rattle.pm_blocks.specs.Totals.{IsShort, IsSummable, one_more, with_row, IsCount, SumFits, HasRoom}
+use Rattle.pm_blocks.specs.Limits.{IsShort, IsSummable}
+use Rattle.pm_blocks.specs.Accumulators.{one_more, with_row, IsCount, SumFits, HasRoom}
 
 -- ---- one more row
 
@@ -44,21 +45,21 @@ IsSumOf n value.Null = Unit {0}
 IsSumOf n (value.Int z) = (neg_ℤ (pos (n * 2 ^ 63)) ≤ℤ z) × (z ≤ℤ pos (n * 2 ^ 63))
 IsSumOf n (value.Text t) = ⊥
 
-IsSumOf-more : (n : ℕ) (v total : Value) → IsShort v → IsSumOf n total → IsSumOf (suc n) (plus v total)
+IsSumOf-more : (n : ℕ) (v so_far : Value) → IsShort v → IsSumOf n so_far → IsSumOf (suc n) (plus v so_far)
 IsSumOf-more n value.Null value.Null short sum = tt
 IsSumOf-more n value.Null (value.Int z) short sum = (omega (arith, ints), omega (arith, ints))
 IsSumOf-more n value.Null (value.Text t) short sum = sum
 IsSumOf-more n (value.Int m) value.Null short sum = (omega (arith, ints), omega (arith, ints))
 IsSumOf-more n (value.Int m) (value.Int z) short sum = (omega (arith, ints), omega (arith, ints))
 IsSumOf-more n (value.Int m) (value.Text t) short sum = absurd sum
-IsSumOf-more n (value.Text t) total short sum = absurd short
+IsSumOf-more n (value.Text t) so_far short sum = absurd short
 
 IsSumOf-rows : (column : ℕ) (rows : List Row) → AllByRecursion (λ row. IsShort (cell row column)) rows → IsSumOf (length rows) (aggregate_of rows (aggregate.Sum column))
 IsSumOf-rows column [] all = tt
 IsSumOf-rows column (row ∷ rows) all =
     IsSumOf-more (length rows) (cell row column) (aggregate_of rows (aggregate.Sum column)) all.0 (IsSumOf-rows column rows all.1)
 
-SumFits-few : (n : ℕ) (total v : Value) → n < 10 ^ 18 → IsSumOf n total → IsShort v → SumFits total v
+SumFits-few : (n : ℕ) (so_far v : Value) → n < 10 ^ 18 → IsSumOf n so_far → IsShort v → SumFits so_far v
 SumFits-few n value.Null v few sum short = tt
 SumFits-few n (value.Int m) value.Null few sum short = tt
 SumFits-few n (value.Int m) (value.Int k) few sum short = omega (arith, ints)

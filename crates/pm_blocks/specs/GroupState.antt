@@ -24,15 +24,16 @@ abbrev pub found_keys : List ℕ → List Row → List Row
 found_keys [] rows = [] ∷ []
 found_keys (key ∷ keys) rows = group_keys (key ∷ keys) rows
 
--- each row of the first list, followed by its fellow in the second one
+-- each row of the first list, followed by the row at its position in the second one
 abbrev pub side_by_side : List Row → List Row → List Row
-side_by_side [] totals = []
+side_by_side [] others = []
 side_by_side (key ∷ keys) [] = []
-side_by_side (key ∷ keys) (total ∷ totals) = (key ++ total) ∷ side_by_side keys totals
+side_by_side (key ∷ keys) (next ∷ others) = (key ++ next) ∷ side_by_side keys others
 
--- what is kept of groups: their different keys, and for each key the aggregates
-pub record IsKept (keys : List ℕ) (items : List Aggregate) (table : KeyList) (totals : List Value) (handed : ℕ) : Type 0 where
+-- what is kept of groups: their different keys, and for each key the aggregates, key after key
+pub record IsKept (keys : List ℕ) (items : List Aggregate) (table : KeyList) (accumulators : List Value) (handed : ℕ) : Type 0 where
   pub width : table.width ≡ length keys
-  pub whole : length totals ≡ length table.keys * length items
+  pub whole : length accumulators ≡ length table.keys * length items
   pub few : length keys + length items < 2 ^ 32
+  pub small : length table.keys < 2 ^ 32
   pub within : handed ≤ length table.keys

@@ -1,5 +1,6 @@
 pub mod SortedNumbers
 pub mod SortState
-pub mod Totals
+pub mod Limits
+pub mod Accumulators
 pub mod GroupState
 pub mod Worked

@@ -1,13 +1,14 @@
 //! Groups and their aggregates.
-ghost use Rattle.std.specs.Prelude.{◌≡◌, ℕ, ◌+◌, ◌*◌, ◌^◌, ◌<◌, ◌++◌, [], ◌∷◌, List, true, false, min, nat_lt, if◌then◌else◌, length, map, get_or, Some, None, All, IsOk, IfOk, OnOk, OnErr};
+ghost use Rattle.std.specs.Prelude.{◌≡◌, ℕ, ◌+◌, ◌-◌, ◌*◌, ◌^◌, ◌<◌, ◌++◌, [], ◌∷◌, List, true, false, min, nat_lt, if◌then◌else◌, length, map, get_or, Some, None, All, IsOk, IfOk, OnOk, OnErr};
 ghost use Rattle.pm_values.specs.Row.{AllBelow, Row, cell, pick};
 ghost use Rattle.pm_keys.specs.Numbers.{entered};
 ghost use Rattle.pm_keys.specs.Cuts.{cut};
 ghost use Rattle.pm_plan.specs.Grouping.{grouped, aggregate_of};
-ghost use Rattle.pm_blocks.specs.Totals.{AreFew, IsWithin, with_row};
+ghost use Rattle.pm_blocks.specs.Limits.{AreFew, IsWithin};
+ghost use Rattle.pm_blocks.specs.Accumulators.{with_row};
 ghost use Rattle.pm_blocks.specs.GroupState.{IsOf, IsKept, side_by_side};
 
-use crate::totals::{add_row, empty_total, push_totals};
+use crate::accumulators::{add_row, empty_aggregate, push_aggregates};
 use pm_keys::{KeyTable, Keys};
 use pm_plan::{Aggregate, Aggregates};
 use pm_values::{Cells, Columns, Pick, Row, Value};
@@ -22,7 +23,9 @@ pub struct GroupCore {
     keys: Columns,
     items: Aggregates,
     table: KeyTable,
-    totals: Vec<Value>,
+    /// The aggregates of each key so far, key after key.
+    accumulators: Vec<Value>,
+    /// Room for what one row changes.
     changes: Vec<Option<Value>>,
     closed: bool,
     handed: u64,
@@ -35,9 +38,9 @@ impl Model for GroupCore {
 
     ghost Value = { GroupState };
 
-    ghost view = { λ g. record { keys = g.keys; items = g.items; groups = side_by_side g.table.keys (cut (length g.items) (length g.table.keys) g.totals.items); closed = g.closed; handed = g.handed } };
+    ghost view = { λ g. record { keys = g.keys; items = g.items; groups = side_by_side g.table.keys (cut (length g.items) (length g.table.keys) g.accumulators.items); closed = g.closed; handed = g.handed } };
 
-    ghost invariant = { λ g. IsKept g.keys g.items g.table g.totals.items g.handed };
+    ghost invariant = { λ g. IsKept g.keys g.items g.table g.accumulators.items g.handed };
 }
 
 impl GroupCore {
@@ -46,19 +49,20 @@ impl GroupCore {
         requires { length keys.now + length items.now < 2 ^ 32 }
         ensures { IfOk result (λ core. core ≡ record { keys = keys.now; items = items.now; groups = grouped keys.now items.now []; closed = false; handed = 0 }) }
     {
-        let (table, totals) = of_no_rows(alloc, keys.as_slice(), items.as_slice())?;
+        let (table, accumulators) = of_no_rows(alloc, keys.as_slice(), items.as_slice())?;
         Ok(GroupCore {
             keys: Columns::from_slice(alloc, keys.as_slice())?,
             items: Aggregates::from_slice(alloc, items.as_slice())?,
             table,
-            totals,
+            accumulators,
             changes: Vec::new(alloc),
             closed: false,
             handed: 0,
         })
     }
 
-    /// Takes the next row. A refusal leaves the groups as they were.
+    /// Takes the next row. A refusal leaves the groups as they were; it comes too where there are 2^32 - 1 groups and the
+    /// row has a new key.
     pub fn take<C: Cells>(&mut self, row: &C) -> Result<(), AllocError>
         requires open { self.old.closed ≡ false }
         requires few_cells { length (C.cells row.now) < 2 ^ 32 }
@@ -68,20 +72,32 @@ impl GroupCore {
         ensures ok { OnOk result ((rows : List Row) → IsOf self.old rows → self.new ≡ record self.old { groups = grouped self.old.keys self.old.items (rows ++ C.cells row.now ∷ []) }) }
         ensures err { OnErr result (self.new ≡ self.old) }
     {
-        let _count = self.table.len();
+        // A table has no room for more keys.
+        let full = self.table.len() == u32::MAX;
         let found = self.table.find(&Pick::new(row, &self.keys));
         match found {
             Some(group) => {
                 let start = group as usize * self.items.len();
-                add_row(&mut self.changes, &mut self.totals, start, &self.items, row)
+                add_row(
+                    &mut self.changes,
+                    &mut self.accumulators,
+                    start,
+                    &self.items,
+                    row,
+                )
             }
-            None => start_group(
-                &mut self.table,
-                &mut self.totals,
-                &self.keys,
-                &self.items,
-                row,
-            ),
+            None => {
+                if full {
+                    return Err(AllocError);
+                }
+                start_group(
+                    &mut self.table,
+                    &mut self.accumulators,
+                    &self.keys,
+                    &self.items,
+                    row,
+                )
+            }
         }
     }
 
@@ -116,13 +132,12 @@ impl GroupCore {
         requires column { column < length self.now.keys + length self.now.items }
         ensures { result.now ≡ cell (get_or self.now.groups group []) column }
     {
-        let _count = self.table.len();
         let width = self.table.width();
         if column < width {
             self.table.cell(group as u32, column)
         } else {
-            total_at(
-                self.totals.as_slice(),
+            accumulator_at(
+                self.accumulators.as_slice(),
                 self.items.len(),
                 group as usize,
                 (column - width) as usize,
@@ -138,11 +153,11 @@ impl GroupCore {
     }
 }
 
-fn total_at(totals: &[Value], width: usize, group: usize, at: usize) -> &Value
-    requires { group * width + at < length totals.now }
-    ensures { result.now ≡ cell totals.now (group * width + at) }
+fn accumulator_at(accumulators: &[Value], width: usize, group: usize, at: usize) -> &Value
+    requires { group * width + at < length accumulators.now }
+    ensures { result.now ≡ cell accumulators.now (group * width + at) }
 {
-    &totals[group * width + at]
+    &accumulators[group * width + at]
 }
 
 /// The keys and the aggregates of no rows.
@@ -156,19 +171,19 @@ fn of_no_rows(
     ensures kept { IfOk result (λ kept. IsKept keys.now items.now kept.0 kept.1.items 0) }
 {
     let mut table = KeyTable::new(alloc, keys.len() as u32);
-    let mut totals = Vec::new(alloc);
+    let mut accumulators = Vec::new(alloc);
     if keys.is_empty() {
         table.enter(&Row::new(alloc))?;
-        push_empty(&mut totals, items)?;
+        push_empty(&mut accumulators, items)?;
     }
-    Ok((table, totals))
+    Ok((table, accumulators))
 }
 
-fn push_empty(totals: &mut Vec<Value>, items: &[Aggregate]) -> Result<(), AllocError>
-    ensures { OnOk result (totals.new.items ≡ totals.old.items ++ map (aggregate_of []) items.now) }
+fn push_empty(accumulators: &mut Vec<Value>, items: &[Aggregate]) -> Result<(), AllocError>
+    ensures { OnOk result (accumulators.new.items ≡ accumulators.old.items ++ map (aggregate_of []) items.now) }
 {
     for item in items {
-        totals.push(empty_total(*item))?;
+        accumulators.push(empty_aggregate(*item))?;
     }
     Ok(())
 }
@@ -176,7 +191,7 @@ fn push_empty(totals: &mut Vec<Value>, items: &[Aggregate]) -> Result<(), AllocE
 /// Enters the key of a row, and the aggregates of this row alone. A refusal leaves both lists.
 fn start_group<C: Cells>(
     table: &mut KeyTable,
-    totals: &mut Vec<Value>,
+    accumulators: &mut Vec<Value>,
     keys: &Columns,
     items: &Aggregates,
     row: &C,
@@ -185,20 +200,17 @@ fn start_group<C: Cells>(
     requires keys_within { AllBelow keys.now (length (C.cells row.now)) }
     requires items_within { All (IsWithin (length (C.cells row.now))) items.now }
     requires wide { table.old.width ≡ length keys.now }
+    requires few { length table.old.keys < 2 ^ 32 - 1 }
     ensures keys { OnOk result (table.new.keys ≡ entered (pick keys.now (C.cells row.now)) table.old.keys) }
     ensures width { table.new.width ≡ table.old.width }
-    ensures totals { OnOk result (totals.new.items ≡ totals.old.items ++ map (λ item. with_row (C.cells row.now) item (aggregate_of [] item)) items.now) }
+    ensures accumulators { OnOk result (accumulators.new.items ≡ accumulators.old.items ++ map (λ item. with_row (C.cells row.now) item (aggregate_of [] item)) items.now) }
     ensures err { OnErr result (table.new ≡ table.old) }
-    ensures kept { OnErr result (totals.new.items ≡ totals.old.items) }
+    ensures kept { OnErr result (accumulators.new.items ≡ accumulators.old.items) }
 {
-    // A table has no room for more keys.
-    if table.len() == u32::MAX {
-        return Err(AllocError);
-    }
-    let before = totals.len();
-    push_totals(totals, items.as_slice(), row)?;
+    let before = accumulators.len();
+    push_aggregates(accumulators, items.as_slice(), row)?;
     if table.enter(&Pick::new(row, keys)).is_err() {
-        totals.truncate(before);
+        accumulators.truncate(before);
         return Err(AllocError);
     }
     Ok(())

@@ -3,12 +3,12 @@
 //! What they hand out is what the definitions of pm_plan say of the rows that were taken.
 #![tactic(auto)]
 
+mod accumulators;
 mod group;
 mod laws;
 mod sort;
 #[cfg(test)]
 mod tests;
-mod totals;
 mod worked;
 
 pub use group::GroupCore;

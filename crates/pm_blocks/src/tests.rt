@@ -2,7 +2,7 @@
 ghost use Rattle.std.specs.Prelude.{◌≡◌, ◌+◌, ◌<◌, ◌≤◌, ◌^◌, true, false, [], ◌∷◌, length, All, IfOk, OnOk};
 ghost use Rattle.pm_values.specs.Row.{AllBelow, cell};
 ghost use Rattle.pm_plan.specs.Grouping.{grouped};
-ghost use Rattle.pm_blocks.specs.Totals.{AreFew, IsShort, IsWithin};
+ghost use Rattle.pm_blocks.specs.Limits.{AreFew, IsShort, IsWithin};
 
 use crate::group::GroupCore;
 use crate::sort::SortCore;

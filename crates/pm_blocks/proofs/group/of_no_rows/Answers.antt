@@ -9,6 +9,6 @@ returns-clause-groups c =
     let keys = c.args.keys.now in
     let items = c.args.items.now in
     elim c.if-is_empty.branch [
-      | then-is_empty+in_ok-enter+in_ok-push_empty w ↦ grouped-one keys items c.if-is_empty.table.keys c.if-is_empty.totals.items (nil_from_length keys (grind arith)) (search rules) (search rules)
-      | else-is_empty w ↦ grouped-none keys items c.if-is_empty.table.keys c.if-is_empty.totals.items (grind arith) (search rules)
+      | then-is_empty+in_ok-enter+in_ok-push_empty w ↦ grouped-one keys items c.if-is_empty.table.keys c.if-is_empty.accumulators.items (nil_from_length keys (grind arith)) (search rules) (search rules)
+      | else-is_empty w ↦ grouped-none keys items c.if-is_empty.table.keys c.if-is_empty.accumulators.items (grind arith) (search rules)
     ]

@@ -1,6 +1,6 @@
 use Rattle.std.proofs.Common.{◌≡◌, length, All}
 use Rattle.pm_values.specs.Row.{cell}
-use Rattle.pm_blocks.specs.Totals.{IsShort}
+use Rattle.pm_blocks.specs.Limits.{IsShort}
 use Rattle.pm_blocks.proofs.tests.rows.Given as goal
 
 abbrev pub invariant-loop-number : goal.invariant-loop-number

@@ -1,4 +1,4 @@
-use Rattle.std.proofs.Common.{◌≡◌, ◌<◌, ◌≤◌, ℕ, List, false, length, All, sym, subst, arith, rules}
+use Rattle.std.proofs.Common.{◌<◌, ◌≤◌, ℕ, List, false, length, All, sym, subst, arith, rules}
 use Rattle.std.proofs.lemmas.List.{get_or-map, length-map}
 use Rattle.pm_plan.specs.declared.plan.SortKey.{SortKey}
 use Rattle.pm_values.specs.Row.{AllBelow}

@@ -1,6 +1,5 @@
 use Rattle.std.proofs.Common.{◌≡◌, take}
 use Rattle.pm_plan.specs.Grouping.{grouped}
-use Rattle.pm_blocks.specs.GroupState.{GroupState}
 use Rattle.pm_blocks.proofs.tests.take_all.Given as goal
 
 -- the groups are those of the rows so far

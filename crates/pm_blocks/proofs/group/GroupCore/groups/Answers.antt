@@ -6,4 +6,4 @@ use Rattle.pm_blocks.proofs.group.GroupCore.groups.Goals as goal
 pub returns : goal.returns
 returns c =
     let inside = c.self.inside in
-    c.from.ensures ∙ c.len.ensures.value ∙ sym (length-groups (length inside.items) inside.table.keys inside.totals.items) ∙ ap (λ (s : GroupState). length s.groups) c.self.view_is
+    c.from.ensures ∙ c.len.ensures.value ∙ sym (length-groups (length inside.items) inside.table.keys inside.accumulators.items) ∙ ap (λ (s : GroupState). length s.groups) c.self.view_is

@@ -1,7 +1,7 @@
 use Rattle.std.proofs.Common.{◌≡◌, ◌++◌, [], map, take}
 use Rattle.pm_plan.specs.Grouping.{aggregate_of}
-use Rattle.pm_blocks.specs.Totals.{with_row}
-use Rattle.pm_blocks.proofs.totals.push_totals.Given as goal
+use Rattle.pm_blocks.specs.Accumulators.{with_row}
+use Rattle.pm_blocks.proofs.accumulators.push_aggregates.Given as goal
 
 -- the aggregates so far have been put
 abbrev pub invariant-loop-item : goal.invariant-loop-item

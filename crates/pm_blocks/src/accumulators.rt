@@ -5,7 +5,8 @@ ghost use Rattle.pm_values.specs.Row.{cell};
 ghost use Rattle.pm_values.specs.Order.{is_less};
 ghost use Rattle.pm_values.specs.Equality.{is_null};
 ghost use Rattle.pm_plan.specs.Grouping.{aggregate_of, plus};
-ghost use Rattle.pm_blocks.specs.Totals.{IsWithin, IsCount, SumFits, HasRoom, AreChanges, IsAdded, item_at, one_more, with_row};
+ghost use Rattle.pm_blocks.specs.Limits.{IsWithin};
+ghost use Rattle.pm_blocks.specs.Accumulators.{IsCount, SumFits, HasRoom, AreChanges, IsAdded, item_at, one_more, with_row};
 
 use pm_plan::{Aggregate, Aggregates};
 use pm_values::{Cells, Value, compare};
@@ -13,7 +14,7 @@ use std::alloc::{AllocError, Global};
 use std::cmp::Ordering;
 
 /// The aggregate of no rows.
-pub(crate) fn empty_total(item: Aggregate) -> Value
+pub(crate) fn empty_aggregate(item: Aggregate) -> Value
     ensures { result ≡ aggregate_of [] item }
 {
     match item {
@@ -26,63 +27,63 @@ pub(crate) fn empty_total(item: Aggregate) -> Value
 pub(crate) fn change<C: Cells>(
     alloc: Global,
     item: Aggregate,
-    total: &Value,
+    so_far: &Value,
     row: &C,
 ) -> Result<Option<Value>, AllocError>
     requires few { length (C.cells row.now) < 2 ^ 32 }
     requires within { IsWithin (length (C.cells row.now)) item }
-    requires room { HasRoom (C.cells row.now) item total.now }
-    ensures { IfOk result (λ change. unwrap_or change total.now ≡ with_row (C.cells row.now) item total.now) }
+    requires room { HasRoom (C.cells row.now) item so_far.now }
+    ensures { IfOk result (λ change. unwrap_or change so_far.now ≡ with_row (C.cells row.now) item so_far.now) }
 {
     match item {
-        Aggregate::CountAll => Ok(Some(counted(total))),
+        Aggregate::CountAll => Ok(Some(counted(so_far))),
         Aggregate::Count(column) => match row.cell(column) {
             Value::Null => Ok(None),
-            _ => Ok(Some(counted(total))),
+            _ => Ok(Some(counted(so_far))),
         },
-        Aggregate::Sum(column) => Ok(summed(total, row.cell(column))),
+        Aggregate::Sum(column) => Ok(summed(so_far, row.cell(column))),
         Aggregate::Min(column) => {
             let next = row.cell(column);
-            replaced(alloc, total, next, compare(next, total))
+            replaced(alloc, so_far, next, compare(next, so_far))
         }
         Aggregate::Max(column) => {
             let next = row.cell(column);
-            replaced(alloc, total, next, compare(total, next))
+            replaced(alloc, so_far, next, compare(so_far, next))
         }
     }
 }
 
-fn counted(total: &Value) -> Value
-    requires { IsCount total.now }
-    ensures { result ≡ one_more total.now }
+fn counted(so_far: &Value) -> Value
+    requires { IsCount so_far.now }
+    ensures { result ≡ one_more so_far.now }
 {
-    match total {
+    match so_far {
         Value::Int(n) => Value::Int(*n + 1),
         _ => unreachable!(),
     }
 }
 
-fn summed(total: &Value, next: &Value) -> Option<Value>
-    requires { SumFits total.now next.now }
-    ensures { unwrap_or result total.now ≡ plus total.now (plus next.now value.Null) }
+fn summed(so_far: &Value, next: &Value) -> Option<Value>
+    requires { SumFits so_far.now next.now }
+    ensures { unwrap_or result so_far.now ≡ plus so_far.now (plus next.now value.Null) }
 {
-    match (total, next) {
+    match (so_far, next) {
         (Value::Int(m), Value::Int(n)) => Some(Value::Int(*m + *n)),
         (Value::Null, Value::Int(n)) => Some(Value::Int(*n)),
         _ => None,
     }
 }
 
-/// A copy of the next value, where the total is NULL or the order is Less; None where the next value is NULL.
+/// A copy of the next value, where the so_far is NULL or the order is Less; None where the next value is NULL.
 fn replaced(
     alloc: Global,
-    total: &Value,
+    so_far: &Value,
     next: &Value,
     order: Ordering,
 ) -> Result<Option<Value>, AllocError>
-    ensures { IfOk result (λ change. unwrap_or change total.now ≡ (if is_null total.now then next.now else (if is_null next.now then total.now else (if is_less order then next.now else total.now)))) }
+    ensures { IfOk result (λ change. unwrap_or change so_far.now ≡ (if is_null so_far.now then next.now else (if is_null next.now then so_far.now else (if is_less order then next.now else so_far.now)))) }
 {
-    match (total, next) {
+    match (so_far, next) {
         (_, Value::Null) => Ok(None),
         (Value::Null, _) => Ok(Some(next.copy(alloc)?)),
         _ => match order {
@@ -96,20 +97,26 @@ fn replaced(
 /// the way.
 pub(crate) fn add_row<C: Cells>(
     changes: &mut Vec<Option<Value>>,
-    totals: &mut Vec<Value>,
+    accumulators: &mut Vec<Value>,
     start: usize,
     items: &Aggregates,
     row: &C,
 ) -> Result<(), AllocError>
     requires few { length (C.cells row.now) < 2 ^ 32 }
     requires within { All (IsWithin (length (C.cells row.now))) items.now }
-    requires there { start + length items.now ≤ length totals.old.items }
-    requires room { (k : ℕ) → k < length items.now → HasRoom (C.cells row.now) (item_at items.now k) (cell totals.old.items (start + k)) }
-    ensures ok { OnOk result (IsAdded (C.cells row.now) items.now start totals.old.items totals.new.items) }
-    ensures err { OnErr result (totals.new.items ≡ totals.old.items) }
+    requires there { start + length items.now ≤ length accumulators.old.items }
+    requires room { (k : ℕ) → k < length items.now → HasRoom (C.cells row.now) (item_at items.now k) (cell accumulators.old.items (start + k)) }
+    ensures ok { OnOk result (IsAdded (C.cells row.now) items.now start accumulators.old.items accumulators.new.items) }
+    ensures err { OnErr result (accumulators.new.items ≡ accumulators.old.items) }
 {
-    find_changes(changes, items.as_slice(), totals.as_slice(), start, row)?;
-    apply(totals, start, changes);
+    find_changes(
+        changes,
+        items.as_slice(),
+        accumulators.as_slice(),
+        start,
+        row,
+    )?;
+    apply(accumulators, start, changes);
     Ok(())
 }
 
@@ -117,26 +124,26 @@ pub(crate) fn add_row<C: Cells>(
 fn find_changes<C: Cells>(
     changes: &mut Vec<Option<Value>>,
     items: &[Aggregate],
-    totals: &[Value],
+    accumulators: &[Value],
     start: usize,
     row: &C,
 ) -> Result<(), AllocError>
     requires few { length (C.cells row.now) < 2 ^ 32 }
     requires within { All (IsWithin (length (C.cells row.now))) items.now }
-    requires there { start + length items.now ≤ length totals.now }
-    requires room { (k : ℕ) → k < length items.now → HasRoom (C.cells row.now) (item_at items.now k) (cell totals.now (start + k)) }
-    ensures { OnOk result (AreChanges (C.cells row.now) items.now start totals.now changes.new.items) }
+    requires there { start + length items.now ≤ length accumulators.now }
+    requires room { (k : ℕ) → k < length items.now → HasRoom (C.cells row.now) (item_at items.now k) (cell accumulators.now (start + k)) }
+    ensures { OnOk result (AreChanges (C.cells row.now) items.now start accumulators.now changes.new.items) }
 {
     let alloc = *changes.allocator();
     changes.clear();
     for (at, item) in items.iter().enumerate() {
-        let change = change(alloc, *item, &totals[start + at], row)?;
+        let change = change(alloc, *item, &accumulators[start + at], row)?;
         changes.push(change)?;
     }
     Ok(())
 }
 
-/// Puts what changed in its place, from a position on.
+/// Puts the changes in, from a position on.
 fn apply(cells: &mut Vec<Value>, start: usize, changes: &mut Vec<Option<Value>>)
     requires { start + length changes.old.items ≤ length cells.old.items }
     ensures length { length cells.new.items ≡ length cells.old.items }
@@ -151,7 +158,7 @@ fn apply(cells: &mut Vec<Value>, start: usize, changes: &mut Vec<Option<Value>>)
 }
 
 /// Puts the aggregates of a group of this row alone at the end. A refusal leaves the list.
-pub(crate) fn push_totals<C: Cells>(
+pub(crate) fn push_aggregates<C: Cells>(
     cells: &mut Vec<Value>,
     items: &[Aggregate],
     row: &C,
@@ -163,7 +170,7 @@ pub(crate) fn push_totals<C: Cells>(
 {
     let before = cells.len();
     for item in items {
-        if push_total(cells, *item, row).is_err() {
+        if push_aggregate(cells, *item, row).is_err() {
             cells.truncate(before);
             return Err(AllocError);
         }
@@ -171,14 +178,18 @@ pub(crate) fn push_totals<C: Cells>(
     Ok(())
 }
 
-fn push_total<C: Cells>(cells: &mut Vec<Value>, item: Aggregate, row: &C) -> Result<(), AllocError>
+fn push_aggregate<C: Cells>(
+    cells: &mut Vec<Value>,
+    item: Aggregate,
+    row: &C,
+) -> Result<(), AllocError>
     requires few { length (C.cells row.now) < 2 ^ 32 }
     requires within { IsWithin (length (C.cells row.now)) item }
     ensures ok { OnOk result (cells.new.items ≡ cells.old.items ++ with_row (C.cells row.now) item (aggregate_of [] item) ∷ []) }
     ensures err { OnErr result (cells.new.items ≡ cells.old.items) }
 {
-    let none = empty_total(item);
-    let total = change(*cells.allocator(), item, &none, row)?.unwrap_or(none);
-    cells.push(total)?;
+    let none = empty_aggregate(item);
+    let so_far = change(*cells.allocator(), item, &none, row)?.unwrap_or(none);
+    cells.push(so_far)?;
     Ok(())
 }
