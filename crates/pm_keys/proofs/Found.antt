@@ -1,5 +1,5 @@
 -- where a key is in a list of different keys, and how a walk along the links comes to it
-use Rattle.std.proofs.Common.{◌≡◌, ◌∙◌, ◌⊎◌, inl, inr, ◌<◌, ◌≤◌, ℕ, Bool, true, false, cond, List, [], ◌∷◌, ◌++◌, length, get_or, position, Option, None, Some, refl, sym, ap, subst, arith, is_some}
+use Rattle.std.proofs.Common.{◌≡◌, ◌∙◌, ◌⊎◌, inl, inr, ◌<◌, ℕ, true, false, List, [], length, get_or, Option, None, Some, refl, sym, ap, arith}
 use Rattle.std.specs.Prelude.{◌≢◌, nat_lt, AllPairs}
 use Rattle.std.specs.List.{position_or_len}
 use Rattle.std.proofs.lemmas.Bool.{cases_Bool}
@@ -7,7 +7,7 @@ use Rattle.std.proofs.lemmas.List.Sums.{position_or_len_is, fails_before_first}
 use Rattle.pm_values.specs.Row.{Row}
 use Rattle.pm_values.specs.Equality.{same_values}
 use Rattle.pm_values.proofs.ValueOrder.{same_values_equal}
-use Rattle.pm_keys.specs.Numbers.{number_of, entered}
+use Rattle.pm_keys.specs.Numbers.{number_of}
 use Rattle.pm_keys.specs.Hash.{hash_of}
 use Rattle.pm_keys.specs.Chains.{hash_at, IsLast}
 

@@ -1,5 +1,5 @@
 -- how keys are found by their hashes: the last number with each hash, and for each number the last one below it with its hash
-use Rattle.std.specs.Prelude.{◌≡◌, ◌≢◌, ◌<◌, ◌^◌, ◌-◌, ℕ, if◌then◌else◌, List, [], length, get_or, nat_eq, Option, None, Some, AllPairs}
+use Rattle.std.specs.Prelude.{◌≡◌, ◌≢◌, ◌<◌, ◌^◌, ℕ, if◌then◌else◌, List, [], length, get_or, nat_eq, Option, None, Some, AllPairs}
 use Rattle.pm_values.specs.Row.{Row}
 use Rattle.pm_keys.specs.Hash.{hash_of}
 

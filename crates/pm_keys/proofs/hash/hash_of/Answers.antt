@@ -1,4 +1,4 @@
-use Rattle.std.proofs.Common.{◌≡◌, ◌∙◌, ◌≤◌, length, take, ap, arith}
+use Rattle.std.proofs.Common.{◌≡◌, ◌∙◌, take, ap, arith}
 use Rattle.std.specs.Prelude.{fold}
 use Rattle.std.specs.Hash.FoldHasher.{initial}
 use Rattle.std.proofs.lemmas.List.{take_all}

@@ -1,4 +1,4 @@
-use Rattle.std.proofs.Common.{◌≡◌, ◌∙◌, ◌<◌, ◌+◌, ◌-◌, ◌*◌, ◌^◌, ◌++◌, ◌∷◌, [], suc, length, sym, ap, subst, arith, add-one}
+use Rattle.std.proofs.Common.{◌≡◌, ◌∙◌, ◌<◌, ◌-◌, ◌^◌, ◌++◌, ◌∷◌, [], suc, length, sym, ap, subst, arith, add-one}
 use Rattle.pm_keys.specs.Numbers.{KeyList}
 use Rattle.pm_keys.specs.Cuts.{cut}
 use Rattle.pm_keys.proofs.Cuts.{cut-append, length-cut}
