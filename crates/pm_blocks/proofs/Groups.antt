@@ -390,6 +390,9 @@ grouped-map : (keys : List ℕ) (items : List Aggregate) (rows : List Row) → g
 grouped-map [] items rows = grouped-side_by_side [] items rows
 grouped-map (key ∷ keys) items rows = refl
 
+pub length-grouped : (keys : List ℕ) (items : List Aggregate) (rows : List Row) → length (grouped keys items rows) ≡ length (found_keys keys rows)
+length-grouped keys items rows = ap length (grouped-map keys items rows) ∙ length-map (found_keys keys rows) (group_row keys items rows)
+
 group_row-other : (keys : List ℕ) (items : List Aggregate) (rows : List Row) (row key : Row) → key ≢ pick keys row → group_row keys items (rows ++ row ∷ []) key ≡ group_row keys items rows key
 group_row-other keys items rows row key differ = ap (λ accumulators. key ++ accumulators) (same items)
   where

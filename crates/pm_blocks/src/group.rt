@@ -72,7 +72,7 @@ impl GroupCore {
         ensures ok { OnOk result ((rows : List Row) → IsOf self.old rows → self.new ≡ record self.old { groups = grouped self.old.keys self.old.items (rows ++ C.cells row.now ∷ []) }) }
         ensures err { OnErr result (self.new ≡ self.old) }
     {
-        // A table has no room for more keys.
+        // A table of keys has no room for one more.
         let full = self.table.len() == u32::MAX;
         let found = self.table.find(&Pick::new(row, &self.keys));
         match found {

@@ -20,6 +20,11 @@ pub fn numbers_are_sorted()
     ensures alone { (keys : List SortKey) (rows : List Row) → sorted_numbers (keys_alone keys) (keys_of (sort_columns keys) rows) ≡ sorted_numbers keys rows }
 {}
 
+/// There is a group for each different key, and one without columns.
+pub fn groups_are_different_keys()
+    ensures { (keys : List ℕ) (items : List Aggregate) (rows : List Row) → length (grouped keys items rows) ≡ length (found_keys keys rows) }
+{}
+
 /// One more row changes the group of its key alone, or makes a group at the end where its key is new.
 pub fn groups_of_one_more_row()
     ensures old { (keys : List ℕ) (items : List Aggregate) (rows : List Row) (row : Row) (n : ℕ) → number_of (pick keys row) (found_keys keys rows) ≡ Some n

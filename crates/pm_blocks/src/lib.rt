@@ -12,5 +12,5 @@ mod tests;
 mod worked;
 
 pub use group::GroupCore;
-pub use laws::{groups_of_one_more_row, numbers_are_sorted};
+pub use laws::{groups_are_different_keys, groups_of_one_more_row, numbers_are_sorted};
 pub use sort::SortCore;
