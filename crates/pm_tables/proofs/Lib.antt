@@ -15,5 +15,7 @@ pub mod Fitting
 pub mod RowsOnce
 pub mod Once
 pub mod Loads
+pub mod Decided
+pub mod SomeAnswer
 pub mod Streamed
 pub mod Rising

@@ -1,7 +1,7 @@
+//! The value of a field of a record in its column.
 ghost use Rattle.std.specs.Prelude.{◌≡◌, ◌≤◌, ◌<◌, ◌*◌, ◌+◌, ◌^◌, ◌++◌, ◌↔◌, ℕ, ℤ, IsTrue, Some, None, take, drop, length, IfOk, MatchOption};
 ghost use Rattle.std.specs.Str.Parse.{AllDigits, IsNumeral, digits_value, digits_value_after, starts_with_minus, without_leading_sign};
 ghost use Rattle.pm_values.specs.Table.{HasValidKind};
-ghost use Rattle.pm_tables.specs.Worked.{InHundredths, InWholeNumbers};
 ghost use Rattle.pm_tables.specs.Field.{AreZeros, HasValue, HasNoValue, IsDecimal, IsScaled, WritesInt, WritesScaled, point_of, with_sign_of};
 
 use pm_values::{ColumnDecl, Kind, Txt, Value};
@@ -140,9 +140,3 @@ fn within(n: u128) -> Option<u128>
 {
     if n <= LARGEST { Some(n) } else { None }
 }
-
-/// Fields that are worked out: `-0.050` and `12.505` with two decimals, whole numbers at 2^63, and the empty field.
-pub fn worked_fields()
-    ensures hundredths { InHundredths }
-    ensures whole { InWholeNumbers }
-{}

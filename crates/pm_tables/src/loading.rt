@@ -1,8 +1,9 @@
+//! The bytes of a CSV file to the table of a declaration.
 ghost use Rattle.std.specs.Prelude.{◌≡◌, ◌≤◌, ◌⊎◌, ◌^◌, ℕ, List, All, IfErr, IfOk, MatchResult, length};
 ghost use Rattle.pm_values.specs.declared.value.Value.{Value};
 ghost use Rattle.pm_values.specs.Table.{Declaration, FitsColumns};
 ghost use Rattle.pm_tables.specs.declared.fault.DataBad.{DataBad};
-ghost use Rattle.pm_tables.specs.Loading.{Answer, CallsFor, Faults, FaultsRecords, IsTable, WritesTable};
+ghost use Rattle.pm_tables.specs.Loading.{Faults, FaultsRecords, IsTable, WritesTable};
 ghost use Rattle.pm_tables.specs.Reading.{FaultsFile};
 
 use crate::fault::DataBad;
@@ -43,8 +44,3 @@ fn typed(alloc: Global, decl: &TableDecl, bytes: &[u8], most: u32) -> Result<Row
     read_header(&mut reader, &mut record, columns, bytes)?;
     type_all(alloc, columns, &mut reader, &mut record, most)
 }
-
-/// What bytes call for is called for once: one table, or one refusal.
-pub fn calls_once()
-    ensures { (decl : Declaration) (bytes : List ℕ) (most : ℕ) (a b : Answer) → CallsFor decl bytes most a → CallsFor decl bytes most b → a ≡ b }
-{}

@@ -1,3 +1,4 @@
+//! The records of a CSV file under its header.
 ghost use Rattle.std.specs.Prelude.{◌≡◌, ◌≤◌, ◌<◌, ◌⊎◌, IsUtf8, ◌++◌, ◌∷◌, ℕ, List, [], IfErr, IfOk, IsTrue, Some, ◌↔◌, slice_get, MatchOption, OnOk, length};
 ghost use Rattle.csv.specs.Reading.{default_config, records, strip_bom};
 ghost use Rattle.csv.specs.Records.{fields_of};
@@ -24,7 +25,7 @@ pub fn records(alloc: Global, decl: &TableDecl, bytes: &[u8], most: u32) -> Resu
     let mut reader = open(alloc, bytes);
     let mut record = StringRecord::new(alloc);
     read_header(&mut reader, &mut record, decl.columns().as_slice(), bytes)?;
-    gather(alloc, &mut reader, &mut record, most)
+    collect_records(alloc, &mut reader, &mut record, most)
 }
 
 /// Reads the header of these bytes into `current`: it is the list of the column names, or the first fault is refused.
@@ -80,7 +81,7 @@ fn has_field(header: &StringRecord, place: usize, text: &str) -> bool
 }
 
 /// All further records, which are put into `current` one by one, or the refusal where these are more than `most`.
-fn gather(
+fn collect_records(
     alloc: Global,
     reader: &mut Reader<&[u8]>,
     current: &mut StringRecord,
@@ -117,7 +118,7 @@ fn push_fields(fields: &mut StringRecord, added: &StringRecord) -> Result<(), Al
 }
 
 /// Reads all further records into `current`, one by one, and refuses more than `most` of them.
-pub(crate) fn pass_over(
+pub(crate) fn check_record_limit(
     reader: &mut Reader<&[u8]>,
     current: &mut StringRecord,
     most: u32,

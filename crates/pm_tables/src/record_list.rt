@@ -1,3 +1,4 @@
+//! A list of records, whose fields stand in one buffer.
 ghost use Rattle.std.specs.Prelude.{◌≡◌, ◌==◌, ◌<◌, ◌≤◌, ◌^◌, ℕ, List, [], get_or, length, slice_range};
 ghost use Rattle.csv.specs.Records.{Rising, fields_of, prev};
 ghost use Rattle.pm_tables.specs.Records.{cut};

@@ -1,3 +1,4 @@
+//! Records that are typed one by one as they are read.
 ghost use Rattle.std.specs.Prelude.{◌≡◌, ◌≤◌, ◌∷◌, ℕ, List, [], All, IfErr, IfOk, MatchResult, length};
 ghost use Rattle.csv.specs.Records.{fields_of};
 ghost use Rattle.pm_values.specs.Table.{HasValidKind};
@@ -6,7 +7,7 @@ ghost use Rattle.pm_tables.specs.Loading.{FaultsBehind, WritesBehind};
 ghost use Rattle.pm_tables.specs.Typing.{FaultsRecord, WritesRow};
 
 use crate::fault::DataBad;
-use crate::reading::{next, pass_over};
+use crate::reading::{check_record_limit, next};
 use crate::typing::type_row;
 use csv::{Reader, StringRecord};
 use pm_values::{ColumnDecl, Row, Rows};
@@ -33,7 +34,7 @@ pub(crate) fn type_all(
         match type_record(alloc, columns, current, at + 1) {
             Ok(row) => rows.push(row)?,
             Err(fault) => {
-                pass_over(reader, current, most - at - 1)?;
+                check_record_limit(reader, current, most - at - 1)?;
                 return Err(fault);
             }
         }

@@ -16,11 +16,11 @@ returns-clause-listed c =
     let text = strip_bom c.args.bytes.now in
     let columns = c.args.decl.now.columns in
     let go : HasRead text (names_of columns ∷ []) c.read_header.new.reader = rw (c.as_slice.ensures, c.columns.ensures.value) at c.in_ok-read_header.ensures.read in
-    listed_of columns c.args.bytes.now c.args.most (names_of columns) c.gather.result (c.gather.ensures.listed text (names_of columns) go) c.in_ok-read_header.ensures.text refl
+    listed_of columns c.args.bytes.now c.args.most (names_of columns) c.collect_records.result (c.collect_records.ensures.listed text (names_of columns) go) c.in_ok-read_header.ensures.text refl
 
 pub returns-clause-refused : goal.returns-clause-refused
 returns-clause-refused c =
     let text = strip_bom c.args.bytes.now in
     let columns = c.args.decl.now.columns in
     let go : HasRead text (names_of columns ∷ []) c.read_header.new.reader = rw (c.as_slice.ensures, c.columns.ensures.value) at c.in_ok-read_header.ensures.read in
-    refused_of columns c.args.bytes.now c.args.most (names_of columns) c.gather.result (c.gather.ensures.refused text (names_of columns) go) c.in_ok-read_header.ensures.text refl
+    refused_of columns c.args.bytes.now c.args.most (names_of columns) c.collect_records.result (c.collect_records.ensures.refused text (names_of columns) go) c.in_ok-read_header.ensures.text refl

@@ -14,14 +14,14 @@ returns-then-not-branch-clause-typed c = λ text header h.
     let all = rw c.if-not-branch.true at (c.in_ok-next.ensures.found text (header ∷ r.0) r.1) in
     (r.0, all, omega (arith, r.2, c.loop-at-test.true), r.3)
 
-pub returns-in_err-pass_over-in-Err-clause-refused : goal.returns-in_err-pass_over-in-Err-clause-refused
-returns-in_err-pass_over-in-Err-clause-refused c = λ text header h.
+pub returns-in_err-check_record_limit-in-Err-clause-refused : goal.returns-in_err-check_record_limit-in-Err-clause-refused
+returns-in_err-check_record_limit-in-Err-clause-refused c = λ text header h.
     let r = c.loop-at.invariant text header h in
     let taken = fields_of c.next.new.current in
     let go : HasRead text (header ∷ (r.0 ++ taken ∷ [])) c.next.new.reader
     = rw c.if-not-branch.false at (c.in_ok-next.ensures.found text (header ∷ r.0) r.1) in
-    let late = c.in_err-pass_over-in-Err.ensures.refused text (header ∷ (r.0 ++ taken ∷ [])) go in
-    let fault : FaultsBehind c.args.columns.now text header c.args.most c.in_err-pass_over-in-Err.field-0.0
+    let late = c.in_err-check_record_limit-in-Err.ensures.refused text (header ∷ (r.0 ++ taken ∷ [])) go in
+    let fault : FaultsBehind c.args.columns.now text header c.args.most c.in_err-check_record_limit-in-Err.field-0.0
     = late_behind c.args.columns.now text header r.0 taken c.args.most _ _ (omega (arith, r.2, c.loop-at-test.true)) late in
     search (rules, fault)
 
@@ -31,7 +31,7 @@ returns-in-Err-clause-refused c = λ text header h.
     let taken = fields_of c.next.new.current in
     let go : HasRead text (header ∷ (r.0 ++ taken ∷ [])) c.next.new.reader
     = rw c.if-not-branch.false at (c.in_ok-next.ensures.found text (header ∷ r.0) r.1) in
-    let rest = c.in_ok-pass_over-in-Err.ensures.ended text (header ∷ (r.0 ++ taken ∷ [])) go in
+    let rest = c.in_ok-check_record_limit-in-Err.ensures.ended text (header ∷ (r.0 ++ taken ∷ [])) go in
     fault_behind c.args.columns.now text header r.0 taken c.args.most _ c.loop-at.rows c.in-Err.fault (omega (arith, r.2, c.loop-at-test.true)) r.3
     (rw r.2 c.in-Err.ensures) rest
 

@@ -4,7 +4,7 @@ use Rattle.pm_values.specs.declared.value.Value.TheVariants as value
 use Rattle.pm_values.specs.declared.value.Kind.TheVariants as kind
 use Rattle.pm_tables.specs.Field.{HasNoValue}
 use Rattle.pm_tables.specs.Worked.{column_of}
-use Rattle.pm_tables.proofs.field.worked_fields.Goals as goal
+use Rattle.pm_tables.proofs.worked.worked_fields.Goals as goal
 
 no_hundredths : HasNoValue (column_of (kind.Num 2) true) (codes "12.505")
 no_hundredths value.Null h = h

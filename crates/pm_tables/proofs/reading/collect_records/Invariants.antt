@@ -2,7 +2,7 @@ use Rattle.std.proofs.Common.{◌≡◌, ◌∷◌, ℕ, List, [], length}
 use Rattle.csv.specs.Records.{Rising, fields_of, last_end}
 use Rattle.pm_tables.specs.HasRead.{HasRead}
 use Rattle.pm_tables.specs.Records.{cut}
-use Rattle.pm_tables.proofs.reading.gather.Given as goal
+use Rattle.pm_tables.proofs.reading.collect_records.Given as goal
 
 abbrev pub invariant-loop : goal.invariant-loop
 invariant-loop l = record {

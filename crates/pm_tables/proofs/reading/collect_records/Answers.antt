@@ -6,7 +6,7 @@ use Rattle.pm_tables.specs.HasRead.{HasRead}
 use Rattle.pm_tables.specs.Records.{cut}
 use Rattle.pm_tables.proofs.AllRecords.{all_start}
 use Rattle.pm_tables.proofs.Cuts.{cut-length, cut_push, rising_push}
-use Rattle.pm_tables.proofs.reading.gather.Goals as goal
+use Rattle.pm_tables.proofs.reading.collect_records.Goals as goal
 
 pub loop-init : goal.loop-init
 unfolding cut Rising last_end

@@ -3,7 +3,7 @@ use Rattle.std.proofs.lemmas.List.{length-append}
 use Rattle.csv.specs.Records.{fields_of}
 use Rattle.pm_tables.specs.HasRead.{HasRead}
 use Rattle.pm_tables.proofs.AllRecords.{all_start}
-use Rattle.pm_tables.proofs.reading.pass_over.Goals as goal
+use Rattle.pm_tables.proofs.reading.check_record_limit.Goals as goal
 
 pub loop-init : goal.loop-init
 loop-init c = λ text rows h. ([], rw (append-nil rows) h, refl)

@@ -1,6 +1,6 @@
 use Rattle.std.proofs.Common.{◌≡◌, ◌++◌, ℕ, List, length}
 use Rattle.pm_tables.specs.HasRead.{HasRead}
-use Rattle.pm_tables.proofs.reading.pass_over.Given as goal
+use Rattle.pm_tables.proofs.reading.check_record_limit.Given as goal
 
 abbrev pub invariant-loop : goal.invariant-loop
 invariant-loop l = (text : List ℕ) (rows : List (List (List ℕ))) → HasRead text rows l.fn.reader
