@@ -31,7 +31,7 @@ pub trait Keys {
         ensures { result.now ≡ cell (get_or (keys self.now) number []) at };
 }
 
-/// Keys behind which a further key can be put.
+/// Keys behind which a further key can be put: `can_keep` says which one, and `with_key` what the keys then are.
 pub trait Keep<C: Cells>: Keys {
     ghost use Rattle.std.specs.Prelude.{◌≡◌, [], ◌∷◌, ◌++◌};
 

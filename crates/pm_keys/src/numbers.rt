@@ -1,5 +1,5 @@
 //! The numbers of keys that something else keeps.
-ghost use Rattle.std.specs.Prelude.{◌≡◌, ◌≢◌, ◌-◌, ◌<◌, ◌^◌, [], length, AllPairs, is_some, if◌then◌else◌, Some, IfOk, OnOk, OnErr};
+ghost use Rattle.std.specs.Prelude.{◌≡◌, ◌≢◌, ◌-◌, ◌<◌, ◌^◌, [], length, AllPairs, is_some, if◌then◌else◌, None, Some, IfOk, OnOk, OnErr};
 ghost use Rattle.pm_keys.specs.Numbers.{number_of};
 ghost use Rattle.pm_keys.specs.Hash.{hash_of};
 ghost use Rattle.pm_keys.specs.Chains.{link_number};
@@ -89,7 +89,8 @@ impl<L: Keys> KeyNumbers<L> {
         None
     }
 
-    /// The number of this key, which is kept as the last one where it is new. A refusal leaves the keys.
+    /// The number of this key, which is kept as the last one where it is new. Only a new key may be refused, and then the
+    /// keys stay.
     pub fn enter<C: Cells>(&mut self, key: &C) -> Result<u32, AllocError>
     where
         L: Keep<C>,
@@ -99,6 +100,7 @@ impl<L: Keys> KeyNumbers<L> {
         ensures number { IfOk result (λ number. number_of (C.cells key.now) (L.keys self.new) ≡ Some number) }
         ensures keys { OnOk result (self.new ≡ (if is_some (number_of (C.cells key.now) (L.keys self.old)) then self.old else L.with_key self.old key.now)) }
         ensures err { OnErr result (self.new ≡ self.old) }
+        ensures new { OnErr result (number_of (C.cells key.now) (L.keys self.old) ≡ None) }
     {
         let _width = self.keys.width();
         let hash = hash_of(key);

@@ -1,5 +1,5 @@
 //! Tables of keys that own them.
-ghost use Rattle.std.specs.Prelude.{◌≡◌, ◌-◌, ◌<◌, ◌^◌, [], length, get_or, Some, IfOk, OnOk, OnErr};
+ghost use Rattle.std.specs.Prelude.{◌≡◌, ◌-◌, ◌<◌, ◌^◌, [], length, get_or, None, Some, IfOk, OnOk, OnErr};
 ghost use Rattle.pm_keys.specs.Numbers.{IsKeyList, entered, number_of};
 
 use crate::keys::{Keys, LentKey};
@@ -50,7 +50,8 @@ impl KeyTable {
         self.numbers.find(key)
     }
 
-    /// The number of this key, which is entered as the last one where it is new. A refusal leaves the table.
+    /// The number of this key, which is entered as the last one where it is new. Only a new key may be refused, and then
+    /// the table stays.
     pub fn enter<C: Cells>(&mut self, key: &C) -> Result<u32, AllocError>
         requires wide { length (C.cells key.now) ≡ self.old.width }
         requires few { length self.old.keys < 2 ^ 32 - 1 }
@@ -58,6 +59,7 @@ impl KeyTable {
         ensures keys { OnOk result (self.new.keys ≡ entered (C.cells key.now) self.old.keys) }
         ensures width { self.new.width ≡ self.old.width }
         ensures err { OnErr result (self.new ≡ self.old) }
+        ensures new { OnErr result (number_of (C.cells key.now) self.old.keys ≡ None) }
     {
         self.numbers.enter(key)
     }
