@@ -16,3 +16,4 @@ pub mod RunState
 pub mod IsRun
 pub mod Certified
 pub mod Answers
+pub mod WorkedTexts
