@@ -278,7 +278,7 @@ fn wide_columns(alloc: Global) -> Result<ColumnDecls, AllocError>
     ensures scales { IfOk result (All HasValidKind) }
 {
     let mut columns = ColumnDecls::new(alloc);
-    for number in 0..64 {
+    for number in 0..64u32 {
         let name = format!(in alloc; "c{number}")?;
         columns.push(column(alloc, name.as_str(), Kind::Int, false)?)?;
     }
@@ -297,7 +297,7 @@ fn wide(alloc: Global) -> Result<TableDecl, AllocError> {
 // A file with these records of 64 fields, each 63 times one field and then another.
 fn wide_file(alloc: Global, records: &[(&str, &str)]) -> Result<String, AllocError> {
     let mut text = String::new(alloc);
-    for number in 0..63 {
+    for number in 0..63u32 {
         text.push_str(format!(in alloc; "c{number},")?.as_str())?;
     }
     text.push_str("c63\n")?;
