@@ -1,5 +1,5 @@
 -- Breaches along a list.
-use Rattle.std.proofs.Common.{◌≡◌, ◌+◌, ◌<◌, ℕ, zero, suc, Bool, List, [], ◌∷◌, ◌++◌, length, get_or, take, drop, Result, Ok, Err, refl, ◌∙◌, ap, sym, drop-cons, append_assoc, append-nil, zero-add, add-zero, arith, ◌≤◌, map}
+use Rattle.std.proofs.Common.{◌≡◌, ◌+◌, ◌<◌, ℕ, zero, suc, List, [], ◌∷◌, ◌++◌, length, get_or, take, drop, Result, Ok, Err, refl, ◌∙◌, ap, sym, drop-cons, append_assoc, append-nil, zero-add, add-zero, arith, ◌≤◌, map}
 use Rattle.std.proofs.lemmas.List.{take-append-drop, take_more, take_all, length-take-le}
 use Rattle.std.proofs.lemmas.Grind.{flat_map-append}
 use Rattle.std.proofs.lemmas.List.Folds.{flat_map-map}

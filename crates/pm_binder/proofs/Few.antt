@@ -1,12 +1,11 @@
 -- How many sources, keys and aggregates there are.
-use Rattle.std.proofs.Common.{◌≡◌, ◌≤◌, ◌<◌, ◌+◌, ◌*◌, ℕ, suc, Bool, true, false, not, ◌||◌, cond, List, [], ◌∷◌, ◌++◌, length, map, filter, take, get_or, refl, ap, sym, ◌∙◌, subst, arith, nat_lt, nat_eq, ◌&&◌}
+use Rattle.std.proofs.Common.{◌≡◌, ◌≤◌, ◌<◌, ◌+◌, ◌*◌, ℕ, Bool, true, false, not, ◌||◌, cond, List, [], ◌∷◌, ◌++◌, length, map, filter, take, get_or, refl, ap, sym, ◌∙◌, subst, arith, nat_lt, nat_eq, ◌&&◌}
 use Rattle.std.specs.List.{list_any, IsDistinct, AllByRecursion}
 use Rattle.std.proofs.lemmas.Bool.{eqb-true}
 use Rattle.std.proofs.lemmas.Bool.Decides.{nat_tests}
 use Rattle.std.proofs.lemmas.Map.Steps.{length-le_from_distinct_below}
 use Rattle.std.proofs.lemmas.List.{length-map}
 use Rattle.pm_syntax.specs.declared.tree.Source.{Source}
-use Rattle.pm_syntax.specs.declared.tree.ColumnName.{ColumnName}
 use Rattle.pm_values.specs.Keys.{once}
 use Rattle.pm_values.specs.Table.{Declaration}
 use Rattle.pm_plan.specs.declared.plan.Aggregate.{Aggregate}
@@ -17,16 +16,16 @@ use Rattle.pm_binder.specs.Breaches.{each_from}
 use Rattle.pm_binder.specs.Sources.{source_breaches, from_breaches}
 use Rattle.pm_binder.proofs.Along.{each_from-split}
 
-empty_left : {A : Type 0} (xs ys : List A) → xs ++ ys ≡ [] → xs ≡ []
+pub empty_left : {A : Type 0} (xs ys : List A) → xs ++ ys ≡ [] → xs ≡ []
 empty_left [] ys h = refl
 empty_left (x ∷ xs) ys h = cc
 
-empty_right : {A : Type 0} (xs ys : List A) → xs ++ ys ≡ [] → ys ≡ []
+pub empty_right : {A : Type 0} (xs ys : List A) → xs ++ ys ≡ [] → ys ≡ []
 empty_right [] ys h = h
 empty_right (x ∷ xs) ys h = cc
 
 -- where there is no breach, there is none at a position
-none_at : {A : Type 0} (f : ℕ → A → List BindBad) (xs : List A) (i : ℕ) (d : A) → i < length xs → each_from f 0 xs ≡ [] → f i (get_or xs i d) ≡ []
+pub none_at : {A : Type 0} (f : ℕ → A → List BindBad) (xs : List A) (i : ℕ) (d : A) → i < length xs → each_from f 0 xs ≡ [] → f i (get_or xs i d) ≡ []
 none_at f xs i d within none =
     let split = sym (each_from-split f xs i d within) ∙ none in
     empty_left (f i (get_or xs i d)) _ (empty_right (each_from f 0 (take i xs)) _ split)
@@ -72,7 +71,7 @@ distinct_filtered p (z ∷ zs) h = of (distinct_filtered p zs h.1) (p z)
     of rest true = (filtered (λ y. nat_eq z y ≡ false) p zs h.0, rest)
     of rest false = rest
 
-distinct_once : (xs : List ℕ) → IsDistinct nat_eq (once nat_eq xs)
+pub distinct_once : (xs : List ℕ) → IsDistinct nat_eq (once nat_eq xs)
 unfolding IsDistinct
 distinct_once [] = tt
 distinct_once (x ∷ xs) = (dropped x (once nat_eq xs), distinct_filtered (λ y. not (nat_eq x y)) (once nat_eq xs) (distinct_once xs))
@@ -81,7 +80,7 @@ distinct_once (x ∷ xs) = (dropped x (once nat_eq xs), distinct_filtered (λ y.
 below_filtered : (n : ℕ) (p : ℕ → Bool) (zs : List ℕ) → AllByRecursion (λ x. x < n) zs → AllByRecursion (λ x. x < n) (filter p zs)
 below_filtered n p zs h = filtered (λ x. x < n) p zs h
 
-below_once : (n : ℕ) (xs : List ℕ) → AllByRecursion (λ x. x < n) xs → AllByRecursion (λ x. x < n) (once nat_eq xs)
+pub below_once : (n : ℕ) (xs : List ℕ) → AllByRecursion (λ x. x < n) xs → AllByRecursion (λ x. x < n) (once nat_eq xs)
 below_once n [] h = tt
 below_once n (x ∷ xs) h = (h.0, below_filtered n (λ y. not (nat_eq x y)) (once nat_eq xs) (below_once n xs h.1))
 

@@ -2,19 +2,16 @@
 use Rattle.std.proofs.Common.{◌≡◌, ℕ, List, [], ◌∷◌, ◌++◌, map, Option, refl, sym, ap, ◌∙◌, subst}
 use Rattle.std.specs.List.{flat_map}
 use Rattle.std.proofs.lemmas.List.{map-append}
-use Rattle.std.proofs.lemmas.List.Folds.{flat_map-map}
 use Rattle.pm_syntax.specs.declared.tree.Test.{Test, roll-Test, map-Test}
 use Rattle.pm_syntax.specs.declared.tree.Test.TheVariants as test
 use Rattle.pm_syntax.specs.declared.tree.Test.TheOpen.{Test-F}
 use Rattle.pm_syntax.specs.declared.tree.Test.TheOpen as layer
 use Rattle.pm_syntax.specs.declared.tree.Test.TheFolds.{ind-Test}
-use Rattle.pm_values.specs.declared.condition.Cond.{Cond}
 use Rattle.pm_values.specs.declared.condition.Cond.TheVariants as cond
-use Rattle.pm_query.specs.declared.query.Conjunct.{Conjunct}
 use Rattle.pm_canonical.proofs.Folds.{fold_any, fold_all, fold_not, fold_compare, fold_null, fold_one_of, fold_between}
 use Rattle.pm_binder.specs.declared.terms.KnownColumn.{KnownColumn}
 use Rattle.pm_binder.specs.Conditions.{whole_row, cond_layer, cond_of}
-use Rattle.pm_binder.specs.Conjuncts.{Split, split_layer, split, test_conjuncts}
+use Rattle.pm_binder.specs.Conjuncts.{split_layer, split, test_conjuncts}
 
 module _ (known : List KnownColumn) where
   -- the whole of what is taken apart is the condition

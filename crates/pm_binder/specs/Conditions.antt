@@ -10,7 +10,6 @@ use Rattle.pm_syntax.specs.declared.tree.Test.{Test, fold-Test}
 use Rattle.pm_syntax.specs.declared.tree.Test.TheOpen.{Test-F}
 use Rattle.pm_syntax.specs.declared.tree.Test.TheOpen as layer
 use Rattle.pm_values.specs.declared.value.Value.TheVariants as value
-use Rattle.pm_values.specs.declared.condition.Comparison.{Comparison}
 use Rattle.pm_values.specs.declared.condition.Comparison.TheVariants as comparison
 use Rattle.pm_values.specs.declared.condition.Operand.{Operand}
 use Rattle.pm_values.specs.declared.condition.Operand.TheVariants as operand

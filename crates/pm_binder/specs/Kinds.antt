@@ -1,5 +1,5 @@
 -- the names and the kinds of a condition, in the order of its text
-use Rattle.std.specs.Prelude.{ℕ, Bool, not, ◌&&◌, List, [], ◌++◌}
+use Rattle.std.specs.Prelude.{ℕ, not, ◌&&◌, List, [], ◌++◌}
 use Rattle.std.specs.List.{flat_map}
 use Rattle.pm_syntax.specs.declared.tree.Literal.{Literal}
 use Rattle.pm_syntax.specs.declared.tree.Literal.TheVariants as literal

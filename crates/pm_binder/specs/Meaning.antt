@@ -1,5 +1,5 @@
 -- the rows that a statement asks for, over its own tree: names are looked up among the columns of its sources, and conditions are whole tests
-use Rattle.std.specs.Prelude.{ℕ, ◌+◌, Bool, true, false, if◌then◌else◌, List, [], ◌∷◌, ◌++◌, map, filter, length, take, drop, Option, None, Some}
+use Rattle.std.specs.Prelude.{ℕ, ◌+◌, Bool, true, false, if◌then◌else◌, List, [], ◌∷◌, ◌++◌, map, filter, length, drop, Option, None, Some}
 use Rattle.std.specs.List.{flat_map, find, position_or_len}
 use Rattle.std.specs.Str.{bytes_eq}
 use Rattle.pm_syntax.specs.declared.tree.ColumnName.{ColumnName}
@@ -21,7 +21,7 @@ use Rattle.pm_values.specs.Condition.{truth_of, negated, both, all_of, any_of, i
 use Rattle.pm_values.specs.Equality.{is_null, same_values}
 use Rattle.pm_values.specs.Keys.{once, different_keys}
 use Rattle.pm_values.specs.Row.{Row, cell}
-use Rattle.pm_values.specs.Table.{Declaration, Relation}
+use Rattle.pm_values.specs.Table.{Declaration}
 use Rattle.pm_plan.specs.declared.plan.SortKey.{SortKey}
 use Rattle.pm_plan.specs.Grouping.{aggregate_of}
 use Rattle.pm_plan.specs.Joins.{or_padded}
@@ -31,10 +31,9 @@ use Rattle.pm_plan.specs.Sorting.{sorted}
 use Rattle.pm_binder.specs.declared.terms.KnownColumn.{KnownColumn}
 use Rattle.pm_binder.specs.declared.terms.Term.{Term}
 use Rattle.pm_binder.specs.declared.terms.Term.TheVariants as term
-use Rattle.pm_binder.specs.declared.terms.PlacedTerm.{PlacedTerm}
 use Rattle.pm_binder.specs.declared.terms.OrderTerm.{OrderTerm}
 use Rattle.pm_binder.specs.declared.terms.Terms.{Terms}
-use Rattle.pm_binder.specs.Sources.{is_named, source_columns, known_columns, known_at}
+use Rattle.pm_binder.specs.Sources.{source_columns, known_columns, known_at}
 use Rattle.pm_binder.specs.Names.{column_of, term_of, term_kind}
 use Rattle.pm_binder.specs.Grouping.{same_term}
 use Rattle.pm_binder.specs.Bound.{resolved}

@@ -1,5 +1,5 @@
 -- what names and expressions mean among the columns that are known
-use Rattle.std.specs.Prelude.{ℕ, ◌==◌, Bool, true, false, not, nat_lt, ◌&&◌, List, [], ◌∷◌, ◌++◌, map, length, Option, None, Some, unwrap_or}
+use Rattle.std.specs.Prelude.{ℕ, ◌==◌, Bool, true, false, not, nat_lt, ◌&&◌, List, [], ◌∷◌, ◌++◌, map, Option, None, Some, unwrap_or}
 use Rattle.std.specs.List.{count_by, position_or_len}
 use Rattle.std.specs.Str.{bytes_eq}
 use Rattle.pm_grammar.specs.declared.names.PlacedName.{PlacedName}

@@ -9,6 +9,7 @@ mod fault;
 mod grouping;
 mod joins;
 mod kinds;
+mod laws;
 mod names;
 mod selection;
 mod sources;
@@ -19,6 +20,7 @@ mod worked;
 
 pub use binding::bind;
 pub use fault::BindBad;
+pub use laws::{declared_are_tables, queries_are_bound, readings_are_formed};
 pub use worked::{
     grouping_worked, joins_worked, kinds_worked, names_worked, queries_worked, rows_worked,
     sources_worked,

@@ -1,6 +1,5 @@
 use Rattle.std.proofs.Common.{◌≡◌, ◌≤◌, ◌<◌, ◌+◌, ◌^◌, length, Ok, Err, ap, sym, subst, ◌∙◌, arith, inl}
 use Rattle.std.proofs.lemmas.Result.{err_from_is_err_and}
-use Rattle.pm_binder.specs.declared.terms.Terms.{Terms}
 use Rattle.pm_binder.specs.Breaches.{verdict}
 use Rattle.pm_binder.specs.Sources.{known_columns}
 use Rattle.pm_binder.specs.Conjuncts.{conjuncts, join_breaches}

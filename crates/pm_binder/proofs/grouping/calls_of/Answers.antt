@@ -1,7 +1,7 @@
-use Rattle.std.proofs.Common.{◌≡◌, ◌++◌, [], fold, ◌∙◌, ap, sym}
+use Rattle.std.proofs.Common.{◌++◌, [], fold, ◌∙◌, ap, sym}
 use Rattle.pm_query.specs.Bound.{same_aggregate}
 use Rattle.pm_binder.specs.Breaches.{added}
-use Rattle.pm_binder.specs.Grouping.{placed_calls, ordered_calls, calls_of}
+use Rattle.pm_binder.specs.Grouping.{placed_calls, ordered_calls}
 use Rattle.pm_binder.proofs.Once.{once_fold, equal_aggregates}
 use Rattle.pm_binder.proofs.grouping.calls_of.Goals as goal
 

@@ -1,4 +1,4 @@
-use Rattle.std.proofs.Common.{◌≡◌, false, get_or, arith, rules, sym, ◌∙◌}
+use Rattle.std.proofs.Common.{◌≡◌, false, get_or, arith, rules, sym}
 use Rattle.std.proofs.lemmas.List.Folds.{list_all_at}
 use Rattle.pm_query.specs.Columns.{within}
 use Rattle.pm_binder.proofs.Steps.{all_map}

@@ -1,4 +1,4 @@
-use Rattle.std.proofs.Common.{[], ◌∷◌, Ok, Err, refl, codes}
+use Rattle.std.proofs.Common.{Err, refl, codes}
 use Rattle.pm_lexer.specs.Symbol.{symbol_of, same_symbol, reserved_word, canonical_sign}
 use Rattle.pm_lexer.specs.Pieces.{quotation, single_quotes}
 use Rattle.pm_lexer.specs.Head.{head_of, number_at, named_at, sign_at}
@@ -7,14 +7,10 @@ use Rattle.pm_lexer.specs.Tokens.{tokens_of, tokens_after}
 use Rattle.pm_grammar.specs.Reading.{list_at, more_at, name_at}
 use Rattle.pm_syntax.specs.Terminals.{func_named}
 use Rattle.pm_syntax.specs.Reading.{column_after, column_at, call_after, expr_after, expr_at, literal_at, term_at, operand_at, literals_at, compare_after, null_after, in_after, between_after, range_after, test_after, test_at, ands_at, cond_at, part_peek, part_at, condition_at, given_at, item_at, items_at, link_at, join_condition_at, on_at, source_at, sources_at, where_at, having_at, groups_at, direction_at, key_at, orders_at, select_at}
-use Rattle.pm_values.proofs.Folds.{fold_all as cond_all, fold_any as cond_any, fold_not as cond_not, fold_compare as cond_compare}
 use Rattle.pm_canonical.specs.Canon.{canon_expr, canon_column}
-use Rattle.pm_canonical.proofs.Folds.{fold_any, fold_all, fold_not, fold_compare, fold_null, fold_one_of, fold_between}
-use Rattle.pm_plan.specs.Worked.{customer_decl, order_decl}
-use Rattle.pm_query.specs.Worked.{large_orders}
+use Rattle.pm_canonical.proofs.Folds.{fold_compare}
 use Rattle.pm_binder.specs.declared.fault.BindBad.TheVariants as bad
 use Rattle.pm_binder.specs.Names.{name_breaches}
-use Rattle.pm_binder.specs.Worked.{joined_twice, left_joined, totals, hidden_column, counted, swapped}
 use Rattle.pm_binder.proofs.Texts.{lexed, select_of, binds}
 use Rattle.pm_binder.proofs.worked.grouping_worked.Goals as goal
 
