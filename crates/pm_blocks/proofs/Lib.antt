@@ -4,3 +4,4 @@ pub mod Sorts
 pub mod Applied
 pub mod Aggregates
 pub mod Groups
+pub mod LedRows

@@ -4,3 +4,4 @@ pub mod Limits
 pub mod Accumulators
 pub mod GroupState
 pub mod Worked
+pub mod Leads

@@ -6,6 +6,7 @@
 mod accumulators;
 mod group;
 mod laws;
+mod leads;
 mod sort;
 #[cfg(test)]
 mod tests;
