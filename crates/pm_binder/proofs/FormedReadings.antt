@@ -34,7 +34,7 @@ is_within n h = grind (arith, nat_tests)
 
 literal_short : (l : Literal) → ValidLiteral l → is_short l ≡ true
 literal_short literal.Null v = refl
-literal_short (literal.Number value decimals) v = is_within decimals v.behind
+literal_short (literal.Number value decimals) v = is_within decimals v.few
 literal_short (literal.Text text) v = refl
 
 operand_formed : (grouped : Bool) (a : Atom) → ValidAtom grouped a → atom_formed grouped a ≡ true

@@ -41,9 +41,9 @@ get_front [] ys i d h = absurd (omega arith)
 get_front (x ∷ xs) ys zero d h = refl
 get_front (x ∷ xs) ys (suc i) d h = get_front xs ys i d (omega arith)
 
-get_behind : (xs ys : List Kind) (i : ℕ) (d : Kind) → get_or (xs ++ ys) (length xs + i) d ≡ get_or ys i d
-get_behind [] ys i d = ap (λ n. get_or ys n d) (zero-add i)
-get_behind (x ∷ xs) ys i d = let next : length (x ∷ xs) + i ≡ suc (length xs + i) = omega arith in ap (λ n. get_or (x ∷ (xs ++ ys)) n d) next ∙ get_behind xs ys i d
+get_after : (xs ys : List Kind) (i : ℕ) (d : Kind) → get_or (xs ++ ys) (length xs + i) d ≡ get_or ys i d
+get_after [] ys i d = ap (λ n. get_or ys n d) (zero-add i)
+get_after (x ∷ xs) ys i d = let next : length (x ∷ xs) + i ≡ suc (length xs + i) = omega arith in ap (λ n. get_or (x ∷ (xs ++ ys)) n d) next ∙ get_after xs ys i d
 
 get_mapped : {A : Type 0} (f : A → Kind) (xs : List A) (i : ℕ) (d : Kind) (a : A) → i < length xs → get_or (map f xs) i d ≡ f (get_or xs i a)
 get_mapped f [] i d a h = absurd (omega arith)
@@ -87,7 +87,7 @@ module _ (known : List KnownColumn) (keys : List ℕ) (calls : List Aggregate) w
   there_kind (term.Call call) h =
       let low : position_or_len (same_aggregate call) calls < length calls = position_below (same_aggregate call) calls h in
       ap (λ n. get_or grouped_kinds (n + position_or_len (same_aggregate call) calls) kind.Int) (sym (length-map keys (kind_at (kinds_of known))))
-      ∙ get_behind (map (kind_at (kinds_of known)) keys) (map (kind_of_item (kinds_of known)) calls) (position_or_len (same_aggregate call) calls) kind.Int
+      ∙ get_after (map (kind_at (kinds_of known)) keys) (map (kind_of_item (kinds_of known)) calls) (position_or_len (same_aggregate call) calls) kind.Int
       ∙ get_mapped (kind_of_item (kinds_of known)) calls (position_or_len (same_aggregate call) calls) kind.Int aggregate.CountAll low
       ∙ ap (kind_of_item (kinds_of known)) (sym (equal_aggregates call (get_or calls (position_or_len (same_aggregate call) calls) aggregate.CountAll) (any_at (same_aggregate call) calls aggregate.CountAll h)))
 

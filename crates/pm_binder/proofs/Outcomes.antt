@@ -23,5 +23,5 @@ third_told e xs ys zs value r none off h told =
 pub none_told : {A : Type 0} (xs ys zs : List BindBad) (value : A) → Ok tt ≡ verdict xs → Ok tt ≡ verdict ys → Ok tt ≡ verdict zs → outcome ((xs ++ ys) ++ zs) value ≡ Ok value
 none_told xs ys zs value none off gone = rw (none_from_ok xs (sym none), none_from_ok ys (sym off), none_from_ok zs (sym gone)) refl
 
-pub outcome_behind : {A : Type 0} (xs ys : List BindBad) (value : A) → Ok tt ≡ verdict xs → outcome (xs ++ ys) value ≡ outcome ys value
-outcome_behind xs ys value none = rw (none_from_ok xs (sym none)) refl
+pub outcome_after : {A : Type 0} (xs ys : List BindBad) (value : A) → Ok tt ≡ verdict xs → outcome (xs ++ ys) value ≡ outcome ys value
+outcome_after xs ys value none = rw (none_from_ok xs (sym none)) refl
