@@ -84,7 +84,8 @@ const NUMBERS: &str = "TABLE n FROM 't.csv' (p NUM(2), q INT NOT NULL);";
 const KEYED: &str =
     "TABLE c FROM 'c.csv' (x TEXT); TABLE n FROM 't.csv' (p INT NOT NULL, q INT, KEY (p));";
 
-const REFERRING: &str = "TABLE n FROM 't.csv' (p INT NOT NULL, q INT NOT NULL, KEY (p), REFERENCES (q) TO n (p));";
+const REFERRING: &str =
+    "TABLE n FROM 't.csv' (p INT NOT NULL, q INT NOT NULL, KEY (p), REFERENCES (q) TO n (p));";
 
 const ORDERED: &str = "TABLE n FROM 't.csv' (p INT NOT NULL, q INT, ORDER (p));";
 
@@ -99,7 +100,11 @@ fn tables_are_refused(rt: HostRuntime) -> Result<(), Fail> {
         (NUMBERS, "p,q\n1,\n", "! 5 field n 1 2\n"),
         (KEYED, "p,q\n1,\n2,\n3,\n4,\n2,\n", "! 5 doublekey n 2 5\n"),
         (ORDERED, "p,q\n1,\n3,\n2,\n", "! 5 outoforder n 3\n"),
-        (REFERRING, "p,q\n2,1\n1,3\n3,4\n4,9\n", "! 5 notarget n 4 1\n"),
+        (
+            REFERRING,
+            "p,q\n2,1\n1,3\n3,4\n4,9\n",
+            "! 5 notarget n 4 1\n",
+        ),
         (REFERRING, "p,q\n2,1\n1,\n", "! 5 field n 2 2\n"),
     ] {
         let (answer, out) = run(&rt, rt.alloc(), [schema, "SELECT * FROM n;", table], 0, 0)?;
@@ -134,12 +139,7 @@ fn typed_rows_are_written_as_csv(rt: HostRuntime) -> Result<(), Fail> {
             "p,q\n-0.050,+7\n,-0\n",
             "R ,0\n",
         ),
-        (
-            REFERRING,
-            "SELECT * FROM n",
-            "p,q\n2,1\n1,2\n",
-            "R 1,2\n",
-        ),
+        (REFERRING, "SELECT * FROM n", "p,q\n2,1\n1,2\n", "R 1,2\n"),
     ] {
         let (answer, out) = run(&rt, rt.alloc(), [schema, query, table], 0, 0)?;
         assert_eq!(rt; answer, Status::Done);

@@ -176,7 +176,10 @@ fn put_data<S: Sink>(out: &mut S, name: &Txt, fault: DataBad) -> Result<(), Writ
         ),
         DataBad::OutOfOrder(at) => (Word::OutOfOrder, Values::One(u128::from(at))),
         DataBad::NoTarget(at, number) => {
-            (Word::NoTarget, Values::Two(u128::from(at), u128::from(number)))
+            (
+                Word::NoTarget,
+                Values::Two(u128::from(at), u128::from(number)),
+            )
         }
         DataBad::Memory => return Ok(()),
     };
