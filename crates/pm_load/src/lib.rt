@@ -1,0 +1,11 @@
+//! A table's file loaded by workers, each of which types a part of the records.
+//!
+//! What comes of it is what one worker gives, for every number of workers and every gate: the table, or the first fault of the file.
+#![tactic(auto)]
+
+mod loading;
+mod parts;
+#[cfg(test)]
+mod tests;
+
+pub use loading::load;
