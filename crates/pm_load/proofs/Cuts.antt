@@ -1,5 +1,5 @@
 -- parts of the records, one after the other
-use Rattle.std.proofs.Common.{◌≡◌, ◌∙◌, ◌≤◌, ◌<◌, ◌+◌, ◌-◌, ◌*◌, ◌/◌, ◌++◌, ℕ, List, [], ◌∷◌, Result, Ok, Err, length, get_or, take, drop, ap, sym, subst, arith, slice_range, inl, inr}
+use Rattle.std.proofs.Common.{◌≡◌, ◌∙◌, ◌≤◌, ◌<◌, ◌+◌, ◌-◌, ◌*◌, ◌/◌, ◌++◌, ℕ, List, [], ◌∷◌, Result, Ok, Err, take, drop, ap, sym, subst, arith, slice_range, inl, inr}
 use Rattle.std.proofs.Math.Nat.{div-le_self, div-mul-le_self, mul-le-mul_right, mul-div_cancel_left}
 use Rattle.std.proofs.Math.Seq.{take-add}
 use Rattle.std.proofs.lemmas.Nat.{le-div}
@@ -7,7 +7,7 @@ use Rattle.std.proofs.lemmas.List.{drop-drop}
 use Rattle.pm_values.specs.declared.value.Value.{Value}
 use Rattle.pm_values.specs.declared.table.ColumnDecl.{ColumnDecl}
 use Rattle.pm_tables.specs.declared.fault.DataBad.{DataBad}
-use Rattle.pm_tables.specs.Typing.{FaultsFirst, WritesRow, WritesRows}
+use Rattle.pm_tables.specs.Typing.{FaultsFirst, WritesRows}
 use Rattle.pm_load.specs.Parts.{Types, Joins, cut}
 
 -- two lists of records

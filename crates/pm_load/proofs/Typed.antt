@@ -1,5 +1,5 @@
 -- all parts of the records of a file
-use Rattle.std.proofs.Common.{◌≡◌, ◌≤◌, ◌<◌, ◌-◌, ◌⊎◌, ℕ, List, Result, Ok, Err, length, arith, slice_range, subst, inl, inr}
+use Rattle.std.proofs.Common.{◌≡◌, ◌≤◌, ◌<◌, ◌-◌, ◌⊎◌, ℕ, List, Result, Ok, Err, length, arith, slice_range, subst, inr}
 use Rattle.std.specs.Prelude.{All, IfOk, IfErr}
 use Rattle.std.proofs.Math.Seq.{take-length}
 use Rattle.pm_values.specs.declared.value.Value.{Value}

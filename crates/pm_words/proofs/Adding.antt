@@ -1,6 +1,6 @@
 -- a command that is made argument by argument, and why clap refuses words
-use Rattle.std.proofs.Common.{◌≡◌, ◌∙◌, ap, ap₂, true, false, Bool, List, [], ◌∷◌, map, refl, subst, inl, inr, ◌⊎◌}
-use Rattle.clap.specs.Walk.{Rule, Text, rule_of}
+use Rattle.std.proofs.Common.{◌≡◌, ◌∙◌, ap₂, true, false, [], refl, subst, inl, inr, ◌⊎◌}
+use Rattle.clap.specs.Walk.{Rule, rule_of}
 use Rattle.clap.specs.Simple.{App, app_of, with_rule}
 use Rattle.clap.specs.Faults.{is_free_app, is_simple_and_free}
 use Rattle.clap.specs.Simple.{built, is_simple}

@@ -1,8 +1,8 @@
 -- how the readers meet the definitions
-use Rattle.std.proofs.Common.{◌≡◌, ◌∙◌, ◌≤◌, ◌<◌, ◌^◌, ap, sym, refl, true, false, Bool, ℕ, List, [], ◌∷◌, Option, Some, None, Result, Ok, Err, length, map, arith, subst, if◌then◌else◌}
+use Rattle.std.proofs.Common.{◌≡◌, ◌∙◌, ap₂, ◌≤◌, ◌<◌, ◌^◌, ap, sym, refl, true, false, Bool, ℕ, List, [], ◌∷◌, Option, Some, None, Result, Err, length, map, arith, subst, if◌then◌else◌}
 use Rattle.std.specs.List.{slice_index_or}
 use Rattle.std.specs.Borrow.{Bor}
-use Rattle.std.specs.Prelude.{option_map, IfOk, IsErrOf}
+use Rattle.std.specs.Prelude.{option_map}
 use Rattle.std.specs.Str.Parse.{IsNumeral, digits_value, without_leading_plus}
 use Rattle.clap.specs.ValueTests.{is_unsigned_in}
 use Rattle.clap.specs.declared.builder.value_parser.ValueParser.TheVariants as vp
@@ -86,3 +86,16 @@ taken_settings words v e none = rw (← e, none) refl
 pub reads_error : {T : Type 0} (e : WordsBad) (o : Option T) → (e ≡ bad.Usage → o ≡ None) → Reads (Err e) o
 reads_error bad.Usage o h = h refl
 reads_error bad.Memory o h = tt
+
+-- where clap takes the words, what its matches say is what the words call for
+pub taken_by : (words texts : List Text) (v : Verb) (app : App) (rows : List Row) (r : Result Settings WordsBad) → Some v ≡ verb_in words → texts ≡ words → app ≡ command_by_verb v
+    → rows ≡ matches_of app texts → fault_of app texts ≡ [] → Reads r (read_by v rows) → Reads r (settings_of words)
+taken_by words texts v app rows r known same is from none h =
+    let e : read_by v rows ≡ settings_of words = ap (read_by v) (from ∙ ap₂ matches_of is same) ∙ sym (taken_settings words v known (sym (ap₂ fault_of is same) ∙ none)) in
+    subst (Reads r) e h
+
+-- where it refuses them for another cause than memory, they call for nothing
+pub refused_by : (words texts : List Text) (v : Verb) (app : App) (e : WordsBad) → Some v ≡ verb_in words → texts ≡ words → app ≡ command_by_verb v
+    → (e ≡ bad.Usage → fault_of app texts ≡ [] → ⊥) → Reads {T = Settings} (Err e) (settings_of words)
+refused_by words texts v app e known same is some =
+    reads_error e (settings_of words) (λ usage. refused_settings words v known (λ none. some usage (ap₂ fault_of is same ∙ none)))

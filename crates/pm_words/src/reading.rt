@@ -180,7 +180,7 @@ fn verb_in(words: &[Txt]) -> Option<Verb>
 
 /// The words as the texts that `clap` takes.
 fn texts_of<'a>(alloc: Global, words: &'a [Txt]) -> Result<Vec<&'a str>, AllocError>
-    ensures { IfOk result (λ texts. texts_in texts ≡ words.now) }
+    ensures { IfOk result (λ texts. texts_in texts.items ≡ words.now) }
 {
     let mut texts = Vec::with_capacity(alloc, words.len())?;
     for word in words {

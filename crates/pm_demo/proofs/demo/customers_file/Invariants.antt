@@ -1,4 +1,4 @@
-use Rattle.std.proofs.Common.{◌≡◌, ◌≤◌, ◌++◌, codes}
+use Rattle.std.proofs.Common.{◌≡◌, ◌++◌, codes}
 use Rattle.pm_demo.specs.Texts.{lines, customer_line}
 use Rattle.pm_demo.proofs.demo.customers_file.Given as goal
 

@@ -1,5 +1,4 @@
-use Rattle.std.proofs.Common.{length, arith}
-use Rattle.pm_load.specs.Parts.{Types}
+use Rattle.std.proofs.Common.{arith}
 use Rattle.pm_load.proofs.Typed.{all_parts, all_refused, all_written, written_few, written_fit}
 use Rattle.pm_load.proofs.loading.typed.Goals as goal
 

@@ -1,4 +1,4 @@
-use Rattle.std.proofs.Common.{◌≡◌, ◌≤◌, ◌+◌, ◌-◌, ◌/◌, length, arith}
+use Rattle.std.proofs.Common.{◌≤◌, ◌+◌, ◌-◌, ◌/◌, length, arith}
 use Rattle.pm_load.specs.Parts.{cut}
 use Rattle.pm_load.proofs.Cuts.{cut_ordered, parts_joined}
 use Rattle.pm_load.proofs.parts.+parts.Goals as goal

@@ -1,4 +1,5 @@
 use Rattle.std.proofs.Common.{◌∙◌}
+use Rattle.clap.specs.Simple.{app_of}
 use Rattle.pm_words.proofs.Adding.{among_some, simple_of}
 use Rattle.pm_words.proofs.command.matches_by.Goals as goal
 
