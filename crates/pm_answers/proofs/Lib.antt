@@ -1,0 +1,9 @@
+pub mod Lists
+pub mod Conditions
+pub mod Taken
+pub mod Merges
+pub mod Joins
+pub mod Entries
+pub mod Sources
+pub mod Combined
+pub mod BuiltRows
