@@ -1,26 +1,30 @@
 -- the rows of the built tree are the query's: groups, orders and DISTINCT above the joined sources
-use Rattle.std.proofs.Common.{◌≡◌, ℕ, ◌+◌, true, false, List, [], ◌∷◌, ◌++◌, length, map, refl, sym, ap, ◌∙◌, arith, length-append}
+use Rattle.std.proofs.Common.{◌≡◌, ℕ, suc, ◌+◌, true, false, List, [], ◌∷◌, ◌++◌, length, map, refl, sym, ap, ◌∙◌, arith, length-append}
 use Rattle.std.specs.Prelude.{◌≢◌, if◌then◌else◌}
 use Rattle.std.specs.List.{filter, All}
 use Rattle.std.proofs.lemmas.List.{append-nil, get_or_at, append_assoc, length-map}
-use Rattle.std.proofs.lemmas.List.Elements.{All-map, All-head, All-tail}
+use Rattle.std.proofs.lemmas.List.Elements.{All-map, All-head, All-tail, All-weaker}
 use Rattle.pm_values.specs.declared.value.Value.TheVariants as value
+use Rattle.pm_values.specs.declared.table.ColumnDecl.{ColumnDecl}
+use Rattle.pm_values.specs.Table.{FitsColumns, IsRelation}
 use Rattle.pm_values.specs.Row.{Row, cell, pick}
 use Rattle.pm_values.specs.Equality.{same_values}
 use Rattle.pm_values.specs.Keys.{once}
 use Rattle.pm_plan.specs.declared.plan.SortKey.{SortKey}
-use Rattle.pm_plan.specs.Rows.{Db}
+use Rattle.pm_plan.specs.Rows.{Db, decls_of}
 use Rattle.pm_plan.specs.Sorting.{inserted, sorted}
 use Rattle.pm_plan.specs.Grouping.{grouped}
 use Rattle.pm_plan.specs.Tree.{Project, Group, Tree, Over}
+use Rattle.pm_plan.specs.Preorder.{tree_of}
+use Rattle.pm_plan.proofs.Preorders.{tree_of-nodes_of}
 use Rattle.pm_plan.specs.Outputs.{output, keeps_if}
 use Rattle.pm_work.specs.First.{Sizes}
 use Rattle.pm_query.specs.declared.query.Query.{Query}
 use Rattle.pm_query.specs.declared.query.Choice.{Choice}
 use Rattle.pm_query.specs.Answer.{combined, rows_of, selected_orders, answer}
-use Rattle.pm_query.specs.Build.{decls_in, filtered, join_tree, sort_if, group_if, numbers_from, tree_for}
+use Rattle.pm_query.specs.Build.{decls_in, filtered, join_tree, sort_if, group_if, numbers_from, tree_for, plan_for}
 use Rattle.pm_query.specs.Bound.{IsBound}
-use Rattle.pm_answers.specs.Databases.{IsDatabaseOf}
+use Rattle.pm_answers.specs.Databases.{IsWide, IsDatabaseOf}
 use Rattle.pm_answers.proofs.Joins.{HasLength, output-filtered}
 use Rattle.pm_answers.proofs.Combined.{join_tree-rows}
 
@@ -92,3 +96,24 @@ built-rows query sizes c db bound of =
       | false ↦
           ap (map (pick query.outputs)) (sort_if-rows query.orders db tree ∙ ap (sorted query.orders) same)
     ]
+
+pub plan-rows : (query : Query) (sizes : Sizes) (c : Choice) (db : Db) → IsBound query → IsDatabaseOf query db → output db (tree_of (plan_for query sizes c).nodes) ≡ answer query db
+plan-rows query sizes c db bound of = ap (output db) (tree_of-nodes_of (tree_for query sizes c)) ∙ built-rows query sizes c db bound of
+
+pub same-rows : (query : Query) (sizes : Sizes) (a b : Choice) (db : Db) → IsBound query → IsDatabaseOf query db → output db (tree_for query sizes a) ≡ output db (tree_for query sizes b)
+same-rows query sizes a b db bound of = built-rows query sizes a db bound of ∙ sym (built-rows query sizes b db bound of)
+
+-- ---- tables that are what their declarations say
+
+columns-wide : (columns : List ColumnDecl) (row : Row) → FitsColumns columns row → length row ≡ length columns
+columns-wide [] [] fit = refl
+columns-wide [] (v ∷ row) fit = absurd fit
+columns-wide (column ∷ columns) [] fit = absurd fit
+columns-wide (column ∷ columns) (v ∷ row) fit = ap suc (columns-wide columns row fit.1)
+
+pub relations-wide : (query : Query) (db : Db) → decls_of db ≡ decls_in query → All IsRelation db → IsDatabaseOf query db
+relations-wide query db declared tables =
+    record {
+      declared = declared;
+      wide = All-weaker IsRelation IsWide (λ t r. All-weaker (FitsColumns t.decl.columns) (λ row. length row ≡ length t.decl.columns) (columns-wide t.decl.columns) t.rows r.fit) db tables;
+    }

@@ -25,7 +25,8 @@ use Rattle.pm_query.specs.Build.{Way, ByHash, ByMerge, ByIndex, scan_of, filtere
 use Rattle.pm_answers.proofs.Lists.{and-comm, filter-all, filter-filter, filter-map, filter-flat_map, filter-passing, flat_map-same, list_all-once}
 use Rattle.pm_answers.proofs.Conditions.{keeps-conjunction}
 use Rattle.pm_answers.proofs.Taken.{meets_pair, same_key-pairs, is_taken, meets-taken, meets-shifted}
-use Rattle.pm_answers.proofs.Merges.{pair-same, SamePairs, WayFits}
+use Rattle.pm_answers.proofs.Members.{pair-same}
+use Rattle.pm_answers.proofs.Merges.{SamePairs, WayFits}
 
 abbrev pub HasLength : ℕ → Row → Type 0
 HasLength n row = length row ≡ n

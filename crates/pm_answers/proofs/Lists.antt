@@ -187,3 +187,10 @@ list_all-once same f alike (x ∷ xs) =
       | false ↦ λ h. refl
     ]
     refl
+
+pub list_all-once_kept : {A : Type 0} (same : A → A → Bool) (f : A → Bool) (xs : List A) → list_all f xs ≡ true → list_all f (once same xs) ≡ true
+list_all-once_kept same f [] all = refl
+list_all-once_kept same f (x ∷ xs) all =
+    let parts = and_parts (f x) (list_all f xs) all in
+    and_from (f x) (list_all f (filter (λ y. not (same x y)) (once same xs))) parts.0
+    (list_all-kept f (λ y. not (same x y)) (once same xs) (list_all-once_kept same f xs parts.1))

@@ -1,10 +1,8 @@
 -- a merge join compares all pairs: as many different ones of them as there are, are all of them
-use Rattle.std.proofs.Common.{◌≡◌, ℕ, ◌≤◌, zero, suc, Bool, true, false, cond, not, ◌&&◌, ◌||◌, List, [], ◌∷◌, length, take, refl, ap, ◌∙◌, ⊎_elim, arith, Option, None, Some}
+use Rattle.std.proofs.Common.{◌≡◌, ℕ, ◌≤◌, zero, suc, Bool, true, false, cond, not, ◌&&◌, List, [], ◌∷◌, length, take, refl, ap, ◌∙◌, ⊎_elim, arith, Option, None, Some}
 use Rattle.std.specs.Prelude.{nat_eq, slice_get}
 use Rattle.std.specs.List.{list_all, list_any, AllByRecursion, IsDistinct}
-use Rattle.std.specs.Cmp.{IsEquivalence}
-use Rattle.std.proofs.lemmas.Bool.{and_parts, and_from, and_left, or_parts, or_cases, or_left, or_right, eqb-true, true_from_ne_false, false≢true, not-true}
-use Rattle.std.proofs.lemmas.Bool.Decides.{nat_tests}
+use Rattle.std.proofs.lemmas.Bool.{and_parts, and_left, or_parts, or_cases, eqb-true, true_from_ne_false, not-true}
 use Rattle.std.proofs.lemmas.Map.Made.{length-le_from_is_member}
 use Rattle.pm_values.specs.Row.{Row}
 use Rattle.pm_values.specs.Table.{Declaration}
@@ -19,64 +17,26 @@ use Rattle.pm_query.specs.Bound.{differ, differ_if, names_once}
 use Rattle.pm_query.specs.Build.{Way, ByHash, ByMerge, ByIndex, merge_pairs, by_merge_or, by_index_if, way_of}
 use Rattle.pm_answers.proofs.Lists.{list_all-weaker, same_tests}
 use Rattle.pm_answers.proofs.Taken.{meets_pair}
-
-pub pair-same : (p q : Pair) → same_pair p q ≡ true → p ≡ q
-pair-same p q h =
-    let parts = and_parts (nat_eq p.left q.left) (nat_eq p.right q.right) h in
-    let left : p.left ≡ q.left = eqb-true p.left q.left parts.0 in
-    let right : p.right ≡ q.right = eqb-true p.right q.right parts.1 in
-    ap (λ k. record { left = k; right = p.right }) left ∙ ap (λ k. record { left = q.left; right = k }) right
-
-pairs_alike : IsEquivalence same_pair
-pairs_alike = record { refl = λ p. grind (arith, nat_tests); symm = λ p q. grind (arith, nat_tests); congr = λ p q r h. grind (arith, nat_tests) }
-
--- ---- members
-
-module _ (f : Pair → Bool) where
-  passes : (p q : Pair) → same_pair p q ≡ true → f q ≡ true → f p ≡ true
-  passes p q h t = ap f (pair-same p q h) ∙ t
-
-  -- a member of a list that passes
-  pub member-passes : (p : Pair) (qs : List Pair) → list_any (same_pair p) qs ≡ true → list_all f qs ≡ true → f p ≡ true
-  member-passes p [] m h = absurd (false≢true m)
-  member-passes p (q ∷ qs) m h =
-      let parts = and_parts (f q) (list_all f qs) h in
-      elim (same_pair p q) as (λ t. (same_pair p q ≡ t) → (t || list_any (same_pair p) qs) ≡ true → f p ≡ true)
-      [ true ↦ λ g n. passes p q g parts.0 | false ↦ λ g n. member-passes p qs n parts.1 ]
-      refl m
-
-  pub members-pass : (ps qs : List Pair) → pairs_within ps qs ≡ true → list_all f qs ≡ true → list_all f ps ≡ true
-  members-pass ps qs m h = list_all-weaker (λ p. list_any (same_pair p) qs) f (λ p n. member-passes p qs n h) ps m
-
-own-members : (qs : List Pair) → pairs_within qs qs ≡ true
-own-members [] = refl
-own-members (q ∷ qs) =
-    and_from (list_any (same_pair q) (q ∷ qs)) (list_all (λ x. list_any (same_pair x) (q ∷ qs)) qs)
-    (or_left (same_pair q q) (list_any (same_pair q) qs) (pairs_alike.refl q))
-    (list_all-weaker (λ x. list_any (same_pair x) qs) (λ x. list_any (same_pair x) (q ∷ qs)) (λ x h. or_right (same_pair x q) (list_any (same_pair x) qs) h) qs (own-members qs))
+use Rattle.pm_answers.proofs.Members.{pair-same, pairs_alike, member-passes, members-pass, own-members, not_member}
 
 -- ---- counting
-
-not_member : (q : Pair) (ps : List Pair) → list_any (same_pair q) ps ≡ false → AllByRecursion (λ p. same_pair q p ≡ false) ps
-not_member q [] h = tt
-not_member q (p ∷ ps) h = let parts = or_parts (same_pair q p) (list_any (same_pair q) ps) h in (parts.0, not_member q ps parts.1)
 
 module _ (ps qs : List Pair) (different : IsDistinct same_pair ps) (many : length qs ≤ length ps) (within : pairs_within ps qs ≡ true) where
   no_room : (q : Pair) → list_any (same_pair q) qs ≡ true → list_any (same_pair q) ps ≡ false → ⊥
   unfolding IsDistinct
   no_room q there missing =
       let more : length (q ∷ ps) ≤ length qs =
-      length-le_from_is_member pairs_alike (q ∷ ps) qs (not_member q ps missing, different)
+      length-le_from_is_member pairs_alike (q ∷ ps) qs (not_member same_pair pair-same pairs_alike q ps missing, different)
       (λ x h. ⊎_elim
       (λ e. ap (λ z. list_any (same_pair z) qs) (pair-same x q e) ∙ there)
-      (λ e. member-passes (λ z. list_any (same_pair z) qs) x ps e within)
+      (λ e. member-passes same_pair pair-same (λ z. list_any (same_pair z) qs) x ps e within)
       (or_cases (same_pair x q) (list_any (same_pair x) ps) h)) in
       omega (arith, more, many)
 
   covered : pairs_within qs ps ≡ true
   covered =
       list_all-weaker (λ q. list_any (same_pair q) qs) (λ q. list_any (same_pair q) ps)
-      (λ q there. true_from_ne_false (list_any (same_pair q) ps) (no_room q there)) qs (own-members qs)
+      (λ q there. true_from_ne_false (list_any (same_pair q) ps) (no_room q there)) qs (own-members same_pair pair-same pairs_alike qs)
 
 -- ---- the pairs of two ORDERs
 
@@ -87,8 +47,8 @@ SamePairs ps qs = (l r : Row) → list_all (meets_pair l r) ps ≡ list_all (mee
 same_pairs : (ps qs : List Pair) → IsDistinct same_pair ps → length qs ≤ length ps → pairs_within ps qs ≡ true → SamePairs ps qs
 same_pairs ps qs different many within l r =
     same_tests (list_all (meets_pair l r) ps) (list_all (meets_pair l r) qs)
-    (members-pass (meets_pair l r) qs ps (covered ps qs different many within))
-    (members-pass (meets_pair l r) ps qs within)
+    (members-pass same_pair pair-same (meets_pair l r) qs ps (covered ps qs different many within))
+    (members-pass same_pair pair-same (meets_pair l r) ps qs within)
 
 lefts_apart : (x y k : ℕ) (xs ys : List ℕ) → list_any (nat_eq x) xs ≡ false → AllByRecursion (λ p. same_pair (record { left = x; right = y }) p ≡ false) (take k (paired xs ys))
 lefts_apart x y zero xs ys h = tt

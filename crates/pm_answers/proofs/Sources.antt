@@ -56,7 +56,7 @@ neither : (a b : Bool) → (not a && not b) ≡ not (a || b)
 neither true b = refl
 neither false b = refl
 
-taken_if : (left : Bool) (position from to : ℕ) (c : Conjunct) → takes left position from to c ≡ true → is_taken from to c.cond ≡ true
+pub taken_if : (left : Bool) (position from to : ℕ) (c : Conjunct) → takes left position from to c ≡ true → is_taken from to c.cond ≡ true
 taken_if left position from to c h = (and_parts (may_take left position c) (is_taken from to c.cond) h).1
 
 module _ (decls : List Declaration) where
