@@ -1,0 +1,16 @@
+pub mod Lists
+pub mod Conditions
+pub mod Taken
+pub mod Members
+pub mod Counting
+pub mod Merges
+pub mod Joins
+pub mod Entries
+pub mod Sources
+pub mod Combined
+pub mod BuiltRows
+pub mod FittingParts
+pub mod ValidJoins
+pub mod ValidSources
+pub mod ValidTrees
+pub mod ValidPlans
