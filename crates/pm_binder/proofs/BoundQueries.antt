@@ -17,13 +17,13 @@ use Rattle.pm_plan.specs.Valid.{are_below}
 use Rattle.pm_query.specs.declared.query.Query.{Query}
 use Rattle.pm_query.specs.Build.{numbers_from}
 use Rattle.pm_query.specs.Bound.{differ, names_once, same_aggregate, source_kinds, grouped_or, row_kinds, SourcesFit, AreJoined, on_fits, is_plain, IsBound}
-use Rattle.pm_binder.specs.declared.fault.BindBad.{BindBad}
-use Rattle.pm_binder.specs.declared.terms.KnownColumn.{KnownColumn}
+use Rattle.pm_names.specs.declared.fault.BindBad.{BindBad}
+use Rattle.pm_names.specs.declared.terms.KnownColumn.{KnownColumn}
 use Rattle.pm_binder.specs.declared.terms.Terms.{Terms}
-use Rattle.pm_binder.specs.Breaches.{outcome, each_from}
-use Rattle.pm_binder.specs.Sources.{alias_of, is_named, place_in, from_breaches, known_column, source_columns, known_columns, table_places, query_source}
-use Rattle.pm_binder.specs.Names.{kinds_of, column_of, placed_term}
-use Rattle.pm_binder.specs.Conditions.{cond_of, exprs_of}
+use Rattle.pm_names.specs.Breaches.{outcome, each_from}
+use Rattle.pm_names.specs.Sources.{alias_of, is_named, place_in, from_breaches, known_column, source_columns, known_columns, table_places, query_source}
+use Rattle.pm_names.specs.Names.{kinds_of, column_of, placed_term}
+use Rattle.pm_names.specs.Conditions.{cond_of, exprs_of}
 use Rattle.pm_binder.specs.Conjuncts.{conjuncts, later_breaches, join_breaches}
 use Rattle.pm_binder.specs.Grouping.{item_list, item_breaches, orders_breaches, having_terms, key_columns, is_call, item_faults, group_faults, ungrouped, order_faults, grouping_breaches, placed_calls, ordered_calls, calls_of, terms_of, shape_of}
 use Rattle.pm_binder.specs.Bound.{test_breaches_if, ons_breaches, groups_breaches, text_breaches, further_breaches, breaches, resolved, having_of, outputs_of, orders_of, query, bound}
@@ -65,15 +65,15 @@ kept select schema found h =
     }
 
 -- the parts of the rules of names and kinds
-record TextKept (schema : List Declaration) (select : Select) : Type 0 where
-  items : item_breaches (known_columns schema select.sources) (item_list select.items) ≡ []
-  ons : ons_breaches schema select.sources ≡ []
-  filter : test_breaches_if (known_columns schema select.sources) select.filter ≡ []
-  groups : groups_breaches (known_columns schema select.sources) select.groups ≡ []
-  having : test_breaches_if (known_columns schema select.sources) select.having ≡ []
-  orders : orders_breaches (known_columns schema select.sources) (item_list select.items) select.orders ≡ []
+pub record TextKept (schema : List Declaration) (select : Select) : Type 0 where
+  pub items : item_breaches (known_columns schema select.sources) (item_list select.items) ≡ []
+  pub ons : ons_breaches schema select.sources ≡ []
+  pub filter : test_breaches_if (known_columns schema select.sources) select.filter ≡ []
+  pub groups : groups_breaches (known_columns schema select.sources) select.groups ≡ []
+  pub having : test_breaches_if (known_columns schema select.sources) select.having ≡ []
+  pub orders : orders_breaches (known_columns schema select.sources) (item_list select.items) select.orders ≡ []
 
-text_kept : (schema : List Declaration) (select : Select) → text_breaches schema select ≡ [] → TextKept schema select
+pub text_kept : (schema : List Declaration) (select : Select) → text_breaches schema select ≡ [] → TextKept schema select
 text_kept schema select none =
     let known = known_columns schema select.sources in
     let a = item_breaches known (item_list select.items) in
@@ -148,10 +148,10 @@ inside terms None h = h
 
 module _ (known : List KnownColumn) (select : Select) (items_none : item_breaches known (item_list select.items) ≡ []) (having_none : test_breaches_if known select.having ≡ [])
     (orders_none : orders_breaches known (item_list select.items) select.orders ≡ []) (grouping_none : grouping_breaches (terms_of known select) ≡ []) (formed : formed_if true select.having ≡ true) where
-  abbrev T : Terms
+  abbrev pub T : Terms
   T = terms_of known select
 
-  abbrev C : List Aggregate
+  abbrev pub C : List Aggregate
   C = calls_of T
 
   groups_off : group_faults T ≡ []
@@ -172,14 +172,14 @@ module _ (known : List KnownColumn) (select : Select) (items_none : item_breache
   no_aggregate : T.grouped ≡ false → (list_any (λ placed. is_call placed.term) T.items || list_any (λ order. is_call order.term) T.orders) ≡ false
   no_aggregate g = (or_parts (is_some select.having) (list_any (λ placed. is_call placed.term) T.items || list_any (λ order. is_call order.term) T.orders) ((or_parts (not (length select.groups == 0)) (is_some select.having || (list_any (λ placed. is_call placed.term) T.items || list_any (λ order. is_call order.term) T.orders)) g).1)).1
 
-  items_stand : (g : Bool) → T.grouped ≡ g → AllByRecursion (λ placed. Stands known T.keys C g placed.term) T.items
+  pub items_stand : (g : Bool) → T.grouped ≡ g → AllByRecursion (λ placed. Stands known T.keys C g placed.term) T.items
   items_stand true g =
       placed_there T.keys C known T.items (inside T T.star (empty_left (item_faults T T.star) (flat_map (ungrouped T.keys) T.havings) (faults_of g))) (among_first (placed_calls T.items) (placed_calls T.havings) C placed_among)
   items_stand false g =
       plain_items known T.keys C T.items (items_fit known select.items items_none)
       ((or_parts (list_any (λ placed. is_call placed.term) T.items) (list_any (λ order. is_call order.term) T.orders) (no_aggregate g)).0)
 
-  orders_stand : (g : Bool) → T.grouped ≡ g → AllByRecursion (λ order. Stands known T.keys C g order.term) T.orders
+  pub orders_stand : (g : Bool) → T.grouped ≡ g → AllByRecursion (λ order. Stands known T.keys C g order.term) T.orders
   orders_stand true g = ordered_there T.keys C known T.orders (orders_inside T T.orders g orders_off) (among_second (placed_calls T.items ++ placed_calls T.havings) (ordered_calls T.orders) C calls_among)
   orders_stand false g =
       plain_orders known T.keys C T.orders (orders_fit known (item_list select.items) select.orders items_none orders_none)
@@ -217,6 +217,15 @@ module _ (known : List KnownColumn) (select : Select) (items_none : item_breache
       all_plain : (keys : List ℕ) (calls : List Aggregate) (having : Option Cond) → keys ≡ [] → calls ≡ [] → having ≡ None → is_plain false keys calls having ≡ true
       all_plain keys calls having a b c = rw (a, b, c) refl
 
+  -- what HAVING reads is one of the keys or of the aggregates
+  pub having_there : (test : Test) → select.having ≡ Some test → AllByRecursion (λ placed. is_there known T.keys C placed.term ≡ true) (map (placed_term known) (exprs_of test))
+  having_there test is =
+      let some : is_some select.having ≡ true = ap is_some is in
+      let g : T.grouped ≡ true = grouped_by (not (length select.groups == 0)) (is_some select.having) (list_any (λ placed. is_call placed.term) T.items || list_any (λ order. is_call order.term) T.orders) some in
+      let terms : T.havings ≡ map (placed_term known) (exprs_of test) = ap (having_terms known) is in
+      let there = placed_there T.keys C known T.havings (empty_right (item_faults T T.star) (flat_map (ungrouped T.keys) T.havings) (faults_of g)) (among_second (placed_calls T.items) (placed_calls T.havings) C placed_among) in
+      subst (AllByRecursion (λ placed. is_there known T.keys C placed.term ≡ true)) terms there
+
   having_right : condition_fits_if (row_of known T.grouped T.keys C) (having_of known (shape_of T) select.having) ≡ true
   having_right = of select.having refl
     where
@@ -225,11 +234,7 @@ module _ (known : List KnownColumn) (select : Select) (items_none : item_breache
       of (Some test) is =
           let some : is_some select.having ≡ true = ap is_some is in
           let g : T.grouped ≡ true = grouped_by (not (length select.groups == 0)) (is_some select.having) (list_any (λ placed. is_call placed.term) T.items || list_any (λ order. is_call order.term) T.orders) some in
-          let terms : T.havings ≡ map (placed_term known) (exprs_of test) = ap (having_terms known) is in
-          let there = placed_there T.keys C known T.havings (empty_right (item_faults T T.star) (flat_map (ungrouped T.keys) T.havings) (faults_of g)) (among_second (placed_calls T.items) (placed_calls T.havings) C placed_among) in
-          let fits =
-          having_fits known T.keys C test (sym (ap (test_breaches_if known) is) ∙ having_none) (sym (ap (formed_if true) is) ∙ formed)
-          (subst (AllByRecursion (λ placed. is_there known T.keys C placed.term ≡ true)) terms there) in
+          let fits = having_fits known T.keys C test (sym (ap (test_breaches_if known) is) ∙ having_none) (sym (ap (formed_if true) is) ∙ formed) (having_there test is) in
           subst (λ b. condition_fits (row_of known b T.keys C) (cond_of known (shape_with b T.keys C) test) ≡ true) (sym g) fits
 
   selected_right : (b : Bool) → select.distinct ≡ b → (not b || list_all (λ key. list_any (nat_eq key.column) (outputs_of (shape_of T) T.items)) (orders_of (shape_of T) T.orders)) ≡ true

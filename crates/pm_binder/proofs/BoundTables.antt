@@ -10,11 +10,11 @@ use Rattle.pm_values.specs.declared.table.ColumnDecl.{ColumnDecl}
 use Rattle.pm_values.specs.Keys.{once}
 use Rattle.pm_values.specs.Table.{Declaration}
 use Rattle.pm_plan.specs.Kinds.{columns_or_none, columns_of, table_kinds}
-use Rattle.pm_binder.specs.declared.fault.BindBad.{BindBad}
-use Rattle.pm_binder.specs.declared.fault.BindBad.TheVariants as bad
-use Rattle.pm_binder.specs.Breaches.{bad_if, each_from}
-use Rattle.pm_binder.specs.Sources.{alias_of, is_named, has_alias, source_breaches, from_breaches, place_in, table_places, table_if, tables_at, query_source, known_column, source_columns, known_columns}
-use Rattle.pm_binder.specs.Names.{kinds_of}
+use Rattle.pm_names.specs.declared.fault.BindBad.{BindBad}
+use Rattle.pm_names.specs.declared.fault.BindBad.TheVariants as bad
+use Rattle.pm_names.specs.Breaches.{bad_if, each_from}
+use Rattle.pm_names.specs.Sources.{alias_of, is_named, has_alias, source_breaches, from_breaches, place_in, table_places, table_if, tables_at, query_source, known_column, source_columns, known_columns}
+use Rattle.pm_names.specs.Names.{kinds_of}
 use Rattle.pm_binder.proofs.Few.{empty_left, empty_right, below_once}
 
 -- where there is no breach along a list, each item is right

@@ -11,10 +11,10 @@ use Rattle.pm_values.specs.Table.{Declaration}
 use Rattle.pm_plan.specs.declared.plan.Aggregate.{Aggregate}
 use Rattle.pm_plan.specs.declared.plan.Aggregate.TheVariants as aggregate
 use Rattle.pm_query.specs.Bound.{same_aggregate}
-use Rattle.pm_binder.specs.declared.fault.BindBad.{BindBad}
-use Rattle.pm_binder.specs.Breaches.{each_from}
-use Rattle.pm_binder.specs.Sources.{source_breaches, from_breaches}
-use Rattle.pm_binder.proofs.Along.{each_from-split}
+use Rattle.pm_names.specs.declared.fault.BindBad.{BindBad}
+use Rattle.pm_names.specs.Breaches.{each_from}
+use Rattle.pm_names.specs.Sources.{source_breaches, from_breaches}
+use Rattle.pm_names.proofs.Along.{each_from-split}
 
 pub empty_left : {A : Type 0} (xs ys : List A) → xs ++ ys ≡ [] → xs ≡ []
 empty_left [] ys h = refl

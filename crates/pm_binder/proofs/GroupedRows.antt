@@ -11,24 +11,24 @@ use Rattle.pm_plan.specs.declared.plan.Aggregate.{Aggregate}
 use Rattle.pm_plan.specs.declared.plan.Aggregate.TheVariants as aggregate
 use Rattle.pm_plan.specs.Kinds.{kind_at, kind_of_item}
 use Rattle.pm_query.specs.Bound.{same_aggregate, aggregates_differ}
-use Rattle.pm_binder.specs.declared.fault.BindBad.TheVariants as bad
-use Rattle.pm_binder.specs.declared.terms.KnownColumn.{KnownColumn}
-use Rattle.pm_binder.specs.declared.terms.Term.{Term}
-use Rattle.pm_binder.specs.declared.terms.Term.TheVariants as term
-use Rattle.pm_binder.specs.declared.terms.PlacedTerm.{PlacedTerm}
+use Rattle.pm_names.specs.declared.fault.BindBad.TheVariants as bad
+use Rattle.pm_names.specs.declared.terms.KnownColumn.{KnownColumn}
+use Rattle.pm_names.specs.declared.terms.Term.{Term}
+use Rattle.pm_names.specs.declared.terms.Term.TheVariants as term
+use Rattle.pm_names.specs.declared.terms.PlacedTerm.{PlacedTerm}
 use Rattle.pm_binder.specs.declared.terms.OrderTerm.{OrderTerm}
-use Rattle.pm_binder.specs.declared.terms.RowShape.{RowShape}
-use Rattle.pm_binder.specs.Names.{kinds_of, term_kind}
-use Rattle.pm_binder.specs.Conditions.{position_in}
+use Rattle.pm_names.specs.declared.terms.RowShape.{RowShape}
+use Rattle.pm_names.specs.Names.{kinds_of, term_kind}
+use Rattle.pm_names.specs.Conditions.{position_in}
 use Rattle.pm_binder.specs.Grouping.{is_outside, ungrouped, calls_in, placed_calls, ordered_calls}
 use Rattle.pm_binder.proofs.Few.{empty_left, empty_right}
-use Rattle.pm_binder.proofs.Once.{equal_aggregates}
+use Rattle.pm_names.proofs.Once.{equal_aggregates}
 use Rattle.pm_binder.proofs.BoundTables.{no_bad, not_false, position_below}
 use Rattle.pm_binder.proofs.Typed.{and_left, and_right}
 
 -- ---- an item with the same as one of these has its position
 
-any_at : {A : Type 0} (p : A → Bool) (xs : List A) (d : A) → list_any p xs ≡ true → p (get_or xs (position_or_len p xs) d) ≡ true
+pub any_at : {A : Type 0} (p : A → Bool) (xs : List A) (d : A) → list_any p xs ≡ true → p (get_or xs (position_or_len p xs) d) ≡ true
 any_at p [] d h = absurd (cc h)
 any_at p (x ∷ xs) d h = of (any_at p xs d) (p x) refl h
   where
@@ -93,7 +93,7 @@ module _ (known : List KnownColumn) (keys : List ℕ) (calls : List Aggregate) w
 
 -- ---- aggregates that are in a list are among the different ones
 
-same_self : (a : Aggregate) → same_aggregate a a ≡ true
+pub same_self : (a : Aggregate) → same_aggregate a a ≡ true
 same_self aggregate.CountAll = refl
 same_self (aggregate.Count a) = eq-eqb a a refl
 same_self (aggregate.Sum a) = eq-eqb a a refl

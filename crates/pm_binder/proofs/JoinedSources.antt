@@ -16,9 +16,9 @@ use Rattle.pm_query.specs.declared.query.QuerySource.{QuerySource}
 use Rattle.pm_query.specs.Answer.{stands_in}
 use Rattle.pm_query.specs.Pairs.{pair_of, may_take, takes, pairs_of}
 use Rattle.pm_query.specs.Bound.{IsJoined, AreJoined}
-use Rattle.pm_binder.specs.declared.fault.BindBad.TheVariants as bad
-use Rattle.pm_binder.specs.Breaches.{bad_if, each_from}
-use Rattle.pm_binder.specs.Sources.{alias_of, is_named, known_column, source_columns, known_columns, known_at, table_places, query_source}
+use Rattle.pm_names.specs.declared.fault.BindBad.TheVariants as bad
+use Rattle.pm_names.specs.Breaches.{bad_if, each_from}
+use Rattle.pm_names.specs.Sources.{alias_of, is_named, known_column, source_columns, known_columns, known_at, table_places, query_source}
 use Rattle.pm_binder.specs.Conjuncts.{is_pair, is_stray, joined_breaches, later_breaches, conjuncts}
 use Rattle.pm_binder.specs.Bound.{ons_breaches, query}
 use Rattle.pm_binder.specs.Laws.{formed_if}

@@ -18,12 +18,12 @@ use Rattle.pm_query.specs.declared.query.Conjunct.{Conjunct}
 use Rattle.pm_query.specs.Answer.{stands_in}
 use Rattle.pm_query.specs.Columns.{within_layer, within}
 use Rattle.pm_query.specs.Bound.{on_fits}
-use Rattle.pm_binder.specs.declared.terms.KnownColumn.{KnownColumn}
-use Rattle.pm_binder.specs.Breaches.{each_from}
-use Rattle.pm_binder.specs.Sources.{source_columns, known_columns, known_at}
-use Rattle.pm_binder.specs.Names.{kinds_of}
-use Rattle.pm_binder.specs.Kinds.{test_breaches}
-use Rattle.pm_binder.specs.Conditions.{whole_row, cond_of, exprs_of}
+use Rattle.pm_names.specs.declared.terms.KnownColumn.{KnownColumn}
+use Rattle.pm_names.specs.Breaches.{each_from}
+use Rattle.pm_names.specs.Sources.{source_columns, known_columns, known_at}
+use Rattle.pm_names.specs.Names.{kinds_of}
+use Rattle.pm_names.specs.Kinds.{test_breaches}
+use Rattle.pm_names.specs.Conditions.{whole_row, cond_of, exprs_of}
 use Rattle.pm_binder.specs.Conjuncts.{split, conjuncts_if, on_conjuncts, conjuncts}
 use Rattle.pm_binder.specs.Bound.{test_breaches_if, on_breaches, ons_breaches}
 use Rattle.pm_binder.specs.Laws.{test_formed, formed_if}
@@ -31,10 +31,10 @@ use Rattle.pm_binder.proofs.Few.{empty_left, empty_right}
 use Rattle.pm_binder.proofs.Typed.{and_left, and_right, both_true, typed}
 use Rattle.pm_binder.proofs.ReadColumns.{fits_within, conjuncts_kept, fits_front}
 
-abbrev Any : Expr → Type 0
+abbrev pub Any : Expr → Type 0
 Any e = Unit {0}
 
-all_any : (es : List Expr) → AllByRecursion Any es
+pub all_any : (es : List Expr) → AllByRecursion Any es
 all_any [] = tt
 all_any (e ∷ es) = (tt, all_any es)
 

@@ -1,8 +1,8 @@
 -- What three groups of rules come to, one after the other.
 use Rattle.std.proofs.Common.{◌≡◌, List, [], ◌∷◌, ◌++◌, Result, Ok, Err, refl, sym, ◌∙◌}
-use Rattle.pm_binder.specs.declared.fault.BindBad.{BindBad}
-use Rattle.pm_binder.specs.Breaches.{verdict, outcome}
-use Rattle.pm_binder.proofs.Along.{none_from_ok, verdict_left}
+use Rattle.pm_names.specs.declared.fault.BindBad.{BindBad}
+use Rattle.pm_names.specs.Breaches.{verdict, outcome}
+use Rattle.pm_names.proofs.Along.{none_from_ok, verdict_left}
 
 outcome_err : {A : Type 0} (e : BindBad) (xs : List BindBad) (value : A) → verdict xs ≡ Err e → outcome xs value ≡ Err e
 outcome_err e [] value h = cc

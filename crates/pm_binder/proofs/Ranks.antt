@@ -9,7 +9,7 @@ use Rattle.pm_values.specs.Keys.{once}
 use Rattle.pm_values.specs.Table.{Declaration}
 use Rattle.pm_query.specs.Build.{numbers_from}
 use Rattle.pm_query.specs.Bound.{differ}
-use Rattle.pm_binder.specs.Sources.{place_in, table_places, query_source, tables_at}
+use Rattle.pm_names.specs.Sources.{place_in, table_places, query_source, tables_at}
 use Rattle.pm_binder.proofs.Few.{distinct_once}
 use Rattle.pm_binder.proofs.BoundTables.{places_among, one_table}
 use Rattle.pm_binder.proofs.Typed.{and_left, and_right, both_true}

@@ -26,11 +26,11 @@ use Rattle.pm_values.proofs.Folds.{fold_all as cond_all, fold_any as cond_any, f
 use Rattle.pm_plan.specs.Kinds.{kind_at, scale_of, kinds_fit, operand_kind, operand_fits, condition_layer, condition_fits}
 use Rattle.pm_query.specs.Columns.{operand_within, within_layer, within}
 use Rattle.pm_canonical.proofs.Folds.{fold_all, fold_compare, fold_null, fold_one_of, fold_between}
-use Rattle.pm_binder.specs.declared.fault.BindBad.TheVariants as bad
-use Rattle.pm_binder.specs.declared.terms.KnownColumn.{KnownColumn}
-use Rattle.pm_binder.specs.Breaches.{bad_if}
-use Rattle.pm_binder.specs.Names.{name_at, means, name_breaches, column_of, kinds_of, expr_breaches}
-use Rattle.pm_binder.specs.Conditions.{whole_row, cond_layer, cond_of}
+use Rattle.pm_names.specs.declared.fault.BindBad.TheVariants as bad
+use Rattle.pm_names.specs.declared.terms.KnownColumn.{KnownColumn}
+use Rattle.pm_names.specs.Breaches.{bad_if}
+use Rattle.pm_names.specs.Names.{name_at, means, name_breaches, column_of, kinds_of, expr_breaches}
+use Rattle.pm_names.specs.Conditions.{whole_row, cond_layer, cond_of}
 use Rattle.pm_binder.specs.Conjuncts.{split_layer, test_conjuncts}
 use Rattle.pm_binder.specs.Laws.{is_column}
 use Rattle.pm_binder.proofs.Few.{empty_left}
@@ -77,29 +77,30 @@ module _ (kinds : List Kind) where
   pub fits_within : (c : Cond) → condition_fits kinds c ≡ true → within 0 (length kinds) c ≡ true
   fits_within = ind-Cond Within (λ x y is. subst (λ z. Within (roll-Cond z)) is (layer_in y))
 
--- ---- what holds of a condition, and of an AND list where it holds of its members, holds of its conjuncts
+-- ---- a test that passes an AND list where it passes its members passes a condition where it passes its conjuncts
+
+and_true : (b : Bool) → (b && true) ≡ b
+and_true true = refl
+and_true false = refl
 
 module _ (Q : Cond → Bool) (all_is : (cs : List Cond) → Q (node.All cs) ≡ list_all (λ m. m) (map Q cs)) (known : List KnownColumn) (on : Option ℕ) where
   abbrev Kept : Test → Type 0
-  Kept t = Q (cond_of known whole_row t) ≡ true → list_all (λ conjunct. Q conjunct.cond) (test_conjuncts known on t) ≡ true
+  Kept t = list_all (λ conjunct. Q conjunct.cond) (test_conjuncts known on t) ≡ Q (cond_of known whole_row t)
 
   alone_kept : (t : Test) → test_conjuncts known on t ≡ record { on = on; cond = cond_of known whole_row t } ∷ [] → Kept t
-  alone_kept t one h = rw one (both_true (Q (cond_of known whole_row t)) true h refl)
+  alone_kept t one = ap (list_all (λ conjunct. Q conjunct.cond)) one ∙ and_true (Q (cond_of known whole_row t))
 
-  members_kept : (members : List ((t : Test) × Kept t)) → list_all (λ m. m) (map Q (map (cond_of known whole_row) (map (λ e. e.0) members))) ≡ true
-      → list_all (λ conjunct. Q conjunct.cond) (flat_map (test_conjuncts known on) (map (λ e. e.0) members)) ≡ true
-  members_kept [] h = refl
-  members_kept (e ∷ es) h =
-      let more = list_all (λ m. m) (map Q (map (cond_of known whole_row) (map (λ e. e.0) es))) in
-      list_all-append (λ conjunct. Q conjunct.cond) (test_conjuncts known on e.0) (flat_map (test_conjuncts known on) (map (λ e. e.0) es))
-      ∙ both_true (list_all (λ conjunct. Q conjunct.cond) (test_conjuncts known on e.0)) (list_all (λ conjunct. Q conjunct.cond) (flat_map (test_conjuncts known on) (map (λ e. e.0) es)))
-      (e.1 (and_left (Q (cond_of known whole_row e.0)) more h)) (members_kept es (and_right (Q (cond_of known whole_row e.0)) more h))
+  members_kept : (members : List ((t : Test) × Kept t))
+      → list_all (λ conjunct. Q conjunct.cond) (flat_map (test_conjuncts known on) (map (λ e. e.0) members)) ≡ list_all (λ m. m) (map Q (map (cond_of known whole_row) (map (λ e. e.0) members)))
+  members_kept [] = refl
+  members_kept (e ∷ es) =
+      list_all-append (λ conjunct. Q conjunct.cond) (test_conjuncts known on e.0) (flat_map (test_conjuncts known on) (map (λ e. e.0) es)) ∙ (λ i. e.1 i && members_kept es i)
 
   all_kept : (members : List ((t : Test) × Kept t)) → Kept (test.All (map (λ e. e.0) members))
-  all_kept members h =
+  all_kept members =
       let ts = map (λ e. e.0) members in
       ap (list_all (λ conjunct. Q conjunct.cond)) (all_conjuncts known on ts)
-      ∙ members_kept members (sym (all_is (map (cond_of known whole_row) ts)) ∙ ap Q (sym (fold_all (cond_layer known whole_row) ts)) ∙ h)
+      ∙ members_kept members ∙ sym (all_is (map (cond_of known whole_row) ts)) ∙ sym (ap Q (fold_all (cond_layer known whole_row) ts))
 
   layer_kept : (y : Test-F ((t : Test) × Kept t)) → Kept (roll-Test (map-Test ((t : Test) × Kept t) Test (λ e. e.0) y))
   layer_kept (layer.Any members) = rw (test.rolls-Any (map (λ e. e.0) members)) (alone_kept (test.Any (map (λ e. e.0) members)) (one_any known on (map (λ e. e.0) members)))
@@ -118,8 +119,11 @@ module _ (Q : Cond → Bool) (all_is : (cs : List Cond) → Q (node.All cs) ≡ 
       rw (test.rolls-Between of low high negated at) (alone_kept (test.Between of low high negated at)
       (ap (λ s. map (λ c. record { on = on; cond = c }) s.members) (fold_between (split_layer known) of low high negated at) ∙ ap (λ c. record { on = on; cond = c } ∷ []) (sym (fold_between (cond_layer known whole_row) of low high negated at))))
 
+  pub conjuncts_pass : (t : Test) → list_all (λ conjunct. Q conjunct.cond) (test_conjuncts known on t) ≡ Q (cond_of known whole_row t)
+  conjuncts_pass = ind-Test Kept (λ x y is. subst (λ z. Kept (roll-Test z)) is (layer_kept y))
+
   pub conjuncts_kept : (t : Test) → Q (cond_of known whole_row t) ≡ true → list_all (λ conjunct. Q conjunct.cond) (test_conjuncts known on t) ≡ true
-  conjuncts_kept = ind-Test Kept (λ x y is. subst (λ z. Kept (roll-Test z)) is (layer_kept y))
+  conjuncts_kept t h = conjuncts_pass t ∙ h
 
 -- ---- a name without a breach means a column
 

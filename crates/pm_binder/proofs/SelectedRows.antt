@@ -15,23 +15,23 @@ use Rattle.pm_plan.specs.declared.plan.Aggregate.{Aggregate}
 use Rattle.pm_plan.specs.Kinds.{kind_at, kind_of_item, condition_fits}
 use Rattle.pm_plan.specs.Valid.{are_below}
 use Rattle.pm_query.specs.Bound.{grouped_or}
-use Rattle.pm_binder.specs.declared.fault.BindBad.TheVariants as bad
-use Rattle.pm_binder.specs.declared.terms.KnownColumn.{KnownColumn}
-use Rattle.pm_binder.specs.declared.terms.Term.{Term}
-use Rattle.pm_binder.specs.declared.terms.Term.TheVariants as term
-use Rattle.pm_binder.specs.declared.terms.PlacedTerm.{PlacedTerm}
+use Rattle.pm_names.specs.declared.fault.BindBad.TheVariants as bad
+use Rattle.pm_names.specs.declared.terms.KnownColumn.{KnownColumn}
+use Rattle.pm_names.specs.declared.terms.Term.{Term}
+use Rattle.pm_names.specs.declared.terms.Term.TheVariants as term
+use Rattle.pm_names.specs.declared.terms.PlacedTerm.{PlacedTerm}
 use Rattle.pm_binder.specs.declared.terms.OrderTerm.{OrderTerm}
-use Rattle.pm_binder.specs.declared.terms.RowShape.{RowShape}
+use Rattle.pm_names.specs.declared.terms.RowShape.{RowShape}
 use Rattle.pm_binder.specs.declared.terms.Terms.{Terms}
-use Rattle.pm_binder.specs.Breaches.{bad_if}
-use Rattle.pm_binder.specs.Names.{kinds_of, column_of, term_of, placed_term, name_breaches}
-use Rattle.pm_binder.specs.Kinds.{test_breaches}
-use Rattle.pm_binder.specs.Conditions.{position_in, cond_of, exprs_of}
+use Rattle.pm_names.specs.Breaches.{bad_if}
+use Rattle.pm_names.specs.Names.{kinds_of, column_of, term_of, placed_term, name_breaches}
+use Rattle.pm_names.specs.Kinds.{test_breaches}
+use Rattle.pm_names.specs.Conditions.{position_in, cond_of, exprs_of}
 use Rattle.pm_binder.specs.Grouping.{item_terms, item_head, heads_of, is_call, is_outside, same_term, is_selected, order_faults, calls_in, placed_calls, ordered_calls, key_columns}
 use Rattle.pm_binder.specs.Bound.{groups_breaches, outputs_of, orders_of}
 use Rattle.pm_binder.specs.Laws.{test_formed, HasItems}
 use Rattle.pm_binder.proofs.Few.{empty_left, empty_right, below_once}
-use Rattle.pm_binder.proofs.Once.{equal_aggregates}
+use Rattle.pm_names.proofs.Once.{equal_aggregates}
 use Rattle.pm_binder.proofs.BoundTables.{no_bad, not_false}
 use Rattle.pm_binder.proofs.Typed.{and_left, and_right, both_true, typed}
 use Rattle.pm_binder.proofs.ReadColumns.{column_below}
@@ -175,7 +175,7 @@ orders_inside terms (o ∷ os) g none =
 
 -- ---- HAVING
 
-there_exprs : (known : List KnownColumn) (keys : List ℕ) (calls : List Aggregate) (es : List Expr) → AllByRecursion (λ placed. is_there known keys calls placed.term ≡ true) (map (placed_term known) es) → AllByRecursion (λ e. is_there known keys calls (term_of known e) ≡ true) es
+pub there_exprs : (known : List KnownColumn) (keys : List ℕ) (calls : List Aggregate) (es : List Expr) → AllByRecursion (λ placed. is_there known keys calls placed.term ≡ true) (map (placed_term known) es) → AllByRecursion (λ e. is_there known keys calls (term_of known e) ≡ true) es
 there_exprs known keys calls [] h = tt
 there_exprs known keys calls (e ∷ es) h = (h.0, there_exprs known keys calls es h.1)
 

@@ -12,12 +12,12 @@ use Rattle.pm_syntax.specs.declared.tree.OrderItem.{OrderItem}
 use Rattle.pm_syntax.specs.declared.tree.Test.{Test}
 use Rattle.pm_syntax.specs.declared.tree.Select.{Select}
 use Rattle.pm_plan.specs.declared.plan.Aggregate.{Aggregate}
-use Rattle.pm_binder.specs.declared.terms.KnownColumn.{KnownColumn}
-use Rattle.pm_binder.specs.declared.terms.Term.TheVariants as term
-use Rattle.pm_binder.specs.Names.{means, column_of, term_of, placed_term}
-use Rattle.pm_binder.specs.Conditions.{exprs_of}
+use Rattle.pm_names.specs.declared.terms.KnownColumn.{KnownColumn}
+use Rattle.pm_names.specs.declared.terms.Term.TheVariants as term
+use Rattle.pm_names.specs.Names.{means, column_of, term_of, placed_term}
+use Rattle.pm_names.specs.Conditions.{exprs_of}
 use Rattle.pm_binder.specs.Grouping.{item_list, item_terms, having_terms, order_term, ordered_by, calls_in, placed_calls, ordered_calls, terms_of, shape_of}
-use Rattle.pm_binder.proofs.Positions.{position_within}
+use Rattle.pm_names.proofs.Positions.{position_within}
 use Rattle.pm_binder.proofs.Few.{number_of, few_once, few_calls}
 
 -- the numbers of these aggregates are below the bound

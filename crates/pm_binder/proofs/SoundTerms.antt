@@ -21,16 +21,16 @@ use Rattle.pm_syntax.specs.declared.tree.Test.TheFolds.{ind-Test}
 use Rattle.pm_plan.specs.Kinds.{kind_at, is_number, item_fits}
 use Rattle.pm_values.specs.Keys.{once}
 use Rattle.pm_canonical.proofs.Folds.{fold_any, fold_all, fold_not, fold_compare, fold_null, fold_one_of, fold_between}
-use Rattle.pm_binder.specs.declared.fault.BindBad.{BindBad}
-use Rattle.pm_binder.specs.declared.fault.BindBad.TheVariants as bad
-use Rattle.pm_binder.specs.declared.terms.KnownColumn.{KnownColumn}
-use Rattle.pm_binder.specs.declared.terms.Term.{Term}
-use Rattle.pm_binder.specs.declared.terms.Term.TheVariants as term
-use Rattle.pm_binder.specs.declared.terms.PlacedTerm.{PlacedTerm}
+use Rattle.pm_names.specs.declared.fault.BindBad.{BindBad}
+use Rattle.pm_names.specs.declared.fault.BindBad.TheVariants as bad
+use Rattle.pm_names.specs.declared.terms.KnownColumn.{KnownColumn}
+use Rattle.pm_names.specs.declared.terms.Term.{Term}
+use Rattle.pm_names.specs.declared.terms.Term.TheVariants as term
+use Rattle.pm_names.specs.declared.terms.PlacedTerm.{PlacedTerm}
 use Rattle.pm_binder.specs.declared.terms.OrderTerm.{OrderTerm}
-use Rattle.pm_binder.specs.Names.{name_breaches, column_of, kinds_of, term_of, placed_term, is_sound, sum_breaches, expr_breaches}
-use Rattle.pm_binder.specs.Kinds.{atom_breaches, kind_breaches, breaches_layer, test_breaches}
-use Rattle.pm_binder.specs.Conditions.{atom_exprs, exprs_layer, exprs_of}
+use Rattle.pm_names.specs.Names.{name_breaches, column_of, kinds_of, term_of, placed_term, is_sound, sum_breaches, expr_breaches}
+use Rattle.pm_names.specs.Kinds.{atom_breaches, kind_breaches, breaches_layer, test_breaches}
+use Rattle.pm_names.specs.Conditions.{atom_exprs, exprs_layer, exprs_of}
 use Rattle.pm_binder.specs.Grouping.{item_list, item_terms, item_breaches, names_item, item_or, ordered_by, order_term, order_breaches, orders_breaches, having_terms, calls_in, placed_calls, ordered_calls}
 use Rattle.pm_binder.specs.Bound.{test_breaches_if}
 use Rattle.pm_binder.proofs.Few.{empty_left, empty_right}

@@ -9,8 +9,8 @@ use Rattle.pm_syntax.specs.declared.tree.Test.TheOpen as layer
 use Rattle.pm_syntax.specs.declared.tree.Test.TheFolds.{ind-Test}
 use Rattle.pm_values.specs.declared.condition.Cond.TheVariants as cond
 use Rattle.pm_canonical.proofs.Folds.{fold_any, fold_all, fold_not, fold_compare, fold_null, fold_one_of, fold_between}
-use Rattle.pm_binder.specs.declared.terms.KnownColumn.{KnownColumn}
-use Rattle.pm_binder.specs.Conditions.{whole_row, cond_layer, cond_of}
+use Rattle.pm_names.specs.declared.terms.KnownColumn.{KnownColumn}
+use Rattle.pm_names.specs.Conditions.{whole_row, cond_layer, cond_of}
 use Rattle.pm_binder.specs.Conjuncts.{split_layer, split, test_conjuncts}
 
 module _ (known : List KnownColumn) where

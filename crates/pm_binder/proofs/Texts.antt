@@ -11,12 +11,12 @@ use Rattle.pm_syntax.proofs.WholeReading.{answer_of, text_calls}
 use Rattle.pm_values.specs.Row.{Row}
 use Rattle.pm_plan.specs.Rows.{Db}
 use Rattle.pm_query.specs.declared.query.Query.{Query}
-use Rattle.pm_binder.specs.declared.fault.BindBad.{BindBad}
-use Rattle.pm_binder.specs.Sources.{from_breaches}
+use Rattle.pm_names.specs.declared.fault.BindBad.{BindBad}
+use Rattle.pm_names.specs.Sources.{from_breaches}
 use Rattle.pm_binder.specs.Conjuncts.{conjuncts, join_breaches}
 use Rattle.pm_binder.specs.Grouping.{grouping_breaches}
 use Rattle.pm_binder.specs.Bound.{text_breaches, resolved, query, bound}
-use Rattle.pm_binder.specs.Breaches.{outcome}
+use Rattle.pm_names.specs.Breaches.{outcome}
 use Rattle.pm_binder.specs.Worked.{shop_schema, TextBinds, TextAsksFor}
 use Rattle.pm_binder.specs.Meaning.{select_rows}
 

@@ -21,13 +21,13 @@ use Rattle.pm_values.specs.declared.condition.Cond.TheVariants as cond
 use Rattle.pm_values.proofs.Folds.{fold_all as cond_all, fold_any as cond_any, fold_not as cond_not, fold_compare as cond_compare, fold_null as cond_null}
 use Rattle.pm_plan.specs.Kinds.{OfColumn, kind_at, scale_of, kinds_fit, operand_kind, operand_fits, condition_layer, condition_fits}
 use Rattle.pm_canonical.proofs.Folds.{fold_any, fold_all, fold_not, fold_compare, fold_null, fold_one_of, fold_between}
-use Rattle.pm_binder.specs.declared.fault.BindBad.{BindBad}
-use Rattle.pm_binder.specs.declared.fault.BindBad.TheVariants as bad
-use Rattle.pm_binder.specs.declared.terms.KnownColumn.{KnownColumn}
-use Rattle.pm_binder.specs.declared.terms.RowShape.{RowShape}
-use Rattle.pm_binder.specs.Names.{term_of, term_kind, is_sound, expr_breaches}
-use Rattle.pm_binder.specs.Kinds.{atom_kind, atom_breaches, kind_breaches, breaches_layer, test_breaches}
-use Rattle.pm_binder.specs.Conditions.{position_in, literal_operand, operand_of, negated_if, cond_layer, cond_of, atom_exprs, exprs_layer, exprs_of}
+use Rattle.pm_names.specs.declared.fault.BindBad.{BindBad}
+use Rattle.pm_names.specs.declared.fault.BindBad.TheVariants as bad
+use Rattle.pm_names.specs.declared.terms.KnownColumn.{KnownColumn}
+use Rattle.pm_names.specs.declared.terms.RowShape.{RowShape}
+use Rattle.pm_names.specs.Names.{term_of, term_kind, is_sound, expr_breaches}
+use Rattle.pm_names.specs.Kinds.{atom_kind, atom_breaches, kind_breaches, breaches_layer, test_breaches}
+use Rattle.pm_names.specs.Conditions.{position_in, literal_operand, operand_of, negated_if, cond_layer, cond_of, atom_exprs, exprs_layer, exprs_of}
 use Rattle.pm_binder.specs.Laws.{is_column, is_short, atom_formed, formed_layer, test_formed}
 use Rattle.pm_binder.proofs.Few.{empty_left, empty_right}
 use Rattle.pm_binder.proofs.BoundTables.{no_bad, not_false}

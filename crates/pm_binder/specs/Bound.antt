@@ -10,17 +10,17 @@ use Rattle.pm_values.specs.Table.{Declaration}
 use Rattle.pm_plan.specs.declared.plan.SortKey.{SortKey}
 use Rattle.pm_query.specs.declared.query.Conjunct.{Conjunct}
 use Rattle.pm_query.specs.declared.query.Query.{Query}
-use Rattle.pm_binder.specs.declared.fault.BindBad.{BindBad}
-use Rattle.pm_binder.specs.declared.terms.KnownColumn.{KnownColumn}
+use Rattle.pm_names.specs.declared.fault.BindBad.{BindBad}
+use Rattle.pm_names.specs.declared.terms.KnownColumn.{KnownColumn}
 use Rattle.pm_binder.specs.declared.terms.OrderTerm.{OrderTerm}
-use Rattle.pm_binder.specs.declared.terms.PlacedTerm.{PlacedTerm}
-use Rattle.pm_binder.specs.declared.terms.RowShape.{RowShape}
+use Rattle.pm_names.specs.declared.terms.PlacedTerm.{PlacedTerm}
+use Rattle.pm_names.specs.declared.terms.RowShape.{RowShape}
 use Rattle.pm_binder.specs.declared.terms.Terms.{Terms}
-use Rattle.pm_binder.specs.Breaches.{outcome, each_from}
-use Rattle.pm_binder.specs.Sources.{from_breaches, known_columns, known_at, table_places, tables_at, query_source}
-use Rattle.pm_binder.specs.Names.{name_breaches}
-use Rattle.pm_binder.specs.Kinds.{test_breaches}
-use Rattle.pm_binder.specs.Conditions.{position_in, cond_of}
+use Rattle.pm_names.specs.Breaches.{outcome, each_from}
+use Rattle.pm_names.specs.Sources.{from_breaches, known_columns, known_at, table_places, tables_at, query_source}
+use Rattle.pm_names.specs.Names.{name_breaches}
+use Rattle.pm_names.specs.Kinds.{test_breaches}
+use Rattle.pm_names.specs.Conditions.{position_in, cond_of}
 use Rattle.pm_binder.specs.Conjuncts.{conjuncts, join_breaches}
 use Rattle.pm_binder.specs.Grouping.{item_list, item_breaches, heads_of, orders_breaches, terms_of, grouping_breaches, shape_of}
 

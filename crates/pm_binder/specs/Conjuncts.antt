@@ -11,12 +11,12 @@ use Rattle.pm_values.specs.Table.{Declaration}
 use Rattle.pm_query.specs.declared.query.Conjunct.{Conjunct}
 use Rattle.pm_query.specs.Answer.{stands_in}
 use Rattle.pm_query.specs.Pairs.{may_take, takes, pair_of}
-use Rattle.pm_binder.specs.declared.fault.BindBad.{BindBad}
-use Rattle.pm_binder.specs.declared.fault.BindBad.TheVariants as bad
-use Rattle.pm_binder.specs.declared.terms.KnownColumn.{KnownColumn}
-use Rattle.pm_binder.specs.Breaches.{bad_if, each_from}
-use Rattle.pm_binder.specs.Sources.{known_columns, known_at}
-use Rattle.pm_binder.specs.Conditions.{whole_row, cond_layer}
+use Rattle.pm_names.specs.declared.fault.BindBad.{BindBad}
+use Rattle.pm_names.specs.declared.fault.BindBad.TheVariants as bad
+use Rattle.pm_names.specs.declared.terms.KnownColumn.{KnownColumn}
+use Rattle.pm_names.specs.Breaches.{bad_if, each_from}
+use Rattle.pm_names.specs.Sources.{known_columns, known_at}
+use Rattle.pm_names.specs.Conditions.{whole_row, cond_layer}
 
 -- a condition with its names resolved, and its members: an AND list is taken apart at all levels
 pub record Split : Type 0 where

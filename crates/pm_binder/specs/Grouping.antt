@@ -16,18 +16,18 @@ use Rattle.pm_values.specs.Keys.{once}
 use Rattle.pm_plan.specs.declared.plan.Aggregate.{Aggregate}
 use Rattle.pm_query.specs.Bound.{same_aggregate}
 use Rattle.pm_canonical.specs.Canon.{canon_expr}
-use Rattle.pm_binder.specs.declared.fault.BindBad.{BindBad}
-use Rattle.pm_binder.specs.declared.fault.BindBad.TheVariants as bad
-use Rattle.pm_binder.specs.declared.terms.KnownColumn.{KnownColumn}
-use Rattle.pm_binder.specs.declared.terms.Term.{Term}
-use Rattle.pm_binder.specs.declared.terms.Term.TheVariants as term
-use Rattle.pm_binder.specs.declared.terms.PlacedTerm.{PlacedTerm}
+use Rattle.pm_names.specs.declared.fault.BindBad.{BindBad}
+use Rattle.pm_names.specs.declared.fault.BindBad.TheVariants as bad
+use Rattle.pm_names.specs.declared.terms.KnownColumn.{KnownColumn}
+use Rattle.pm_names.specs.declared.terms.Term.{Term}
+use Rattle.pm_names.specs.declared.terms.Term.TheVariants as term
+use Rattle.pm_names.specs.declared.terms.PlacedTerm.{PlacedTerm}
 use Rattle.pm_binder.specs.declared.terms.OrderTerm.{OrderTerm}
 use Rattle.pm_binder.specs.declared.terms.Terms.{Terms}
-use Rattle.pm_binder.specs.declared.terms.RowShape.{RowShape}
-use Rattle.pm_binder.specs.Breaches.{bad_if}
-use Rattle.pm_binder.specs.Names.{column_of, expr_at, term_of, placed_term, expr_breaches}
-use Rattle.pm_binder.specs.Conditions.{exprs_of}
+use Rattle.pm_names.specs.declared.terms.RowShape.{RowShape}
+use Rattle.pm_names.specs.Breaches.{bad_if}
+use Rattle.pm_names.specs.Names.{column_of, expr_at, term_of, placed_term, expr_breaches}
+use Rattle.pm_names.specs.Conditions.{exprs_of}
 
 -- ---- SELECT
 

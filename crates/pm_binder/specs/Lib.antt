@@ -1,8 +1,3 @@
-pub mod Breaches
-pub mod Sources
-pub mod Names
-pub mod Kinds
-pub mod Conditions
 pub mod Conjuncts
 pub mod Grouping
 pub mod Bound

@@ -28,13 +28,13 @@ use Rattle.pm_plan.specs.Joins.{or_padded}
 use Rattle.pm_plan.specs.Kinds.{scale_of}
 use Rattle.pm_plan.specs.Rows.{Db, rows_or_none}
 use Rattle.pm_plan.specs.Sorting.{sorted}
-use Rattle.pm_binder.specs.declared.terms.KnownColumn.{KnownColumn}
-use Rattle.pm_binder.specs.declared.terms.Term.{Term}
-use Rattle.pm_binder.specs.declared.terms.Term.TheVariants as term
+use Rattle.pm_names.specs.declared.terms.KnownColumn.{KnownColumn}
+use Rattle.pm_names.specs.declared.terms.Term.{Term}
+use Rattle.pm_names.specs.declared.terms.Term.TheVariants as term
 use Rattle.pm_binder.specs.declared.terms.OrderTerm.{OrderTerm}
 use Rattle.pm_binder.specs.declared.terms.Terms.{Terms}
-use Rattle.pm_binder.specs.Sources.{source_columns, known_columns, known_at}
-use Rattle.pm_binder.specs.Names.{column_of, term_of, term_kind}
+use Rattle.pm_names.specs.Sources.{source_columns, known_columns, known_at}
+use Rattle.pm_names.specs.Names.{column_of, term_of, term_kind}
 use Rattle.pm_binder.specs.Grouping.{same_term}
 use Rattle.pm_binder.specs.Bound.{resolved}
 

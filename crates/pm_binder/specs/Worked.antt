@@ -15,7 +15,7 @@ use Rattle.pm_plan.specs.declared.plan.Aggregate.TheVariants as aggregate
 use Rattle.pm_plan.specs.Worked.{against, declared, customer_decl, order_decl}
 use Rattle.pm_query.specs.declared.query.Query.{Query}
 use Rattle.pm_query.specs.Worked.{table_at, conjunct, equal, of_table, orders_with_names, customers_left_joined}
-use Rattle.pm_binder.specs.declared.fault.BindBad.{BindBad}
+use Rattle.pm_names.specs.declared.fault.BindBad.{BindBad}
 use Rattle.pm_binder.specs.Bound.{bound}
 use Rattle.pm_binder.specs.Meaning.{select_rows}
 

@@ -1,20 +1,20 @@
 //! Binds a statement to a schema.
 ghost use Rattle.std.specs.Prelude.{◌≡◌, ◌⊎◌, ◌+◌, ◌<◌, ◌≤◌, ◌^◌, length, IfOk, IsErrOf};
-ghost use Rattle.pm_binder.specs.declared.fault.BindBad.TheVariants as bad;
-ghost use Rattle.pm_binder.specs.Breaches.{verdict, outcome};
-ghost use Rattle.pm_binder.specs.Sources.{known_columns};
+ghost use Rattle.pm_names.specs.declared.fault.BindBad.TheVariants as bad;
+ghost use Rattle.pm_names.specs.Breaches.{verdict, outcome};
+ghost use Rattle.pm_names.specs.Sources.{known_columns};
 ghost use Rattle.pm_binder.specs.Bound.{test_breaches_if, on_breaches, ons_breaches, groups_breaches, text_breaches, having_of, outputs_of, orders_of, query_of, query, further_breaches, bound};
 ghost use Rattle.pm_binder.specs.Grouping.{shape_of};
 
-use crate::conditions::{check_test, condition, position_in};
 use crate::conjuncts::conjuncts;
-use crate::fault::BindBad;
 use crate::grouping::{check_grouping, shape_of};
 use crate::joins::check_joins;
-use crate::names::check_name;
 use crate::selection::{check_items, check_orders, heads_of, item_list, terms_of};
-use crate::sources::{check_sources, known_at, known_columns, places, query_sources, tables};
-use crate::terms::{KnownColumn, OrderTerm, PlacedTerm, RowShape, Terms};
+use crate::terms::{OrderTerm, Terms};
+use pm_names::{
+    BindBad, KnownColumn, PlacedTerm, RowShape, check_name, check_sources, check_test, condition,
+    known_at, known_columns, places, position_in, query_sources, tables,
+};
 use pm_query::{Conjuncts, Query, QueryOrder, QueryOrders};
 use pm_schema::Schema;
 use pm_syntax::{ColumnName, Select, Source, Test};

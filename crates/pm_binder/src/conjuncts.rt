@@ -1,13 +1,11 @@
 //! The conditions that all have to be true.
 ghost use Rattle.std.specs.Prelude.{◌≡◌, ◌++◌, ◌<◌, ◌≤◌, ◌^◌, length, [], ◌∷◌, IfOk, OnOk};
 ghost use Rattle.std.specs.List.{flat_map};
-ghost use Rattle.pm_binder.specs.Sources.{known_columns};
-ghost use Rattle.pm_binder.specs.Conditions.{whole_row, cond_of};
+ghost use Rattle.pm_names.specs.Sources.{known_columns};
+ghost use Rattle.pm_names.specs.Conditions.{whole_row, cond_of};
 ghost use Rattle.pm_binder.specs.Conjuncts.{test_conjuncts, conjuncts_if, on_conjuncts, conjuncts};
 
-use crate::conditions::{condition, whole_row};
-use crate::sources::known_at;
-use crate::terms::KnownColumn;
+use pm_names::{KnownColumn, condition, known_at, whole_row};
 use pm_query::{Conjunct, Conjuncts};
 use pm_syntax::{Source, Test};
 use pm_values::TableDecl;

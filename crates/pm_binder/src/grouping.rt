@@ -2,12 +2,11 @@
 ghost use Rattle.std.specs.Prelude.{◌≡◌, ◌++◌, fold, nat_eq, length, [], IfOk, OnOk};
 ghost use Rattle.std.specs.List.{flat_map, list_any};
 ghost use Rattle.pm_query.specs.Bound.{same_aggregate};
-ghost use Rattle.pm_binder.specs.Breaches.{verdict, added};
+ghost use Rattle.pm_names.specs.Breaches.{verdict, added};
 ghost use Rattle.pm_binder.specs.Grouping.{is_outside, ungrouped, same_term, is_selected, order_faults, item_faults, group_faults, grouping_breaches, calls_in, placed_calls, ordered_calls, calls_of, shape_of};
 
-use crate::conditions::same_aggregate;
-use crate::fault::BindBad;
-use crate::terms::{OrderTerm, PlacedTerm, RowShape, Term, Terms};
+use crate::terms::{OrderTerm, Terms};
+use pm_names::{BindBad, PlacedTerm, RowShape, Term, same_aggregate};
 use pm_plan::{Aggregate, Aggregates};
 use pm_values::Columns;
 use std::alloc::{AllocError, Global};

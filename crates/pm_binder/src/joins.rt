@@ -4,11 +4,10 @@ ghost use Rattle.std.specs.List.{list_any, list_all};
 ghost use Rattle.pm_query.specs.Answer.{stands_in};
 ghost use Rattle.pm_query.specs.Columns.{is_column, reads, operand_within, within};
 ghost use Rattle.pm_query.specs.Pairs.{pair_at, equal_pair, pair_of};
-ghost use Rattle.pm_binder.specs.Breaches.{verdict};
+ghost use Rattle.pm_names.specs.Breaches.{verdict};
 ghost use Rattle.pm_binder.specs.Conjuncts.{is_pair, is_stray, joined_breaches, later_breaches, join_breaches};
 
-use crate::fault::BindBad;
-use crate::sources::width;
+use pm_names::{BindBad, width};
 use pm_query::Conjunct;
 use pm_syntax::Source;
 use pm_values::{Comparison, Cond, Operand, TableDecl};

@@ -3,24 +3,19 @@
 #![tactic(auto)]
 
 mod binding;
-mod conditions;
 mod conjuncts;
-mod fault;
 mod grouping;
 mod joins;
-mod kinds;
 mod laws;
-mod names;
 mod selection;
-mod sources;
 mod terms;
 #[cfg(test)]
 mod tests;
 mod worked;
 
 pub use binding::bind;
-pub use fault::BindBad;
-pub use laws::{declared_are_tables, queries_are_bound, readings_are_formed};
+pub use pm_names::BindBad;
+pub use laws::{declared_are_tables, queries_are_bound, readings_are_formed, rows_are_answers};
 pub use worked::{
     grouping_worked, joins_worked, kinds_worked, names_worked, queries_worked, rows_worked,
     sources_worked,

@@ -3,7 +3,7 @@ ghost use Rattle.std.specs.Prelude.{Ok, Err, codes, [], ◌∷◌};
 ghost use Rattle.pm_values.specs.declared.value.Value.TheVariants.{Null, Text};
 ghost use Rattle.pm_plan.specs.Worked.{number, customer_decl, order_decl, shop};
 ghost use Rattle.pm_query.specs.Worked.{large_orders};
-ghost use Rattle.pm_binder.specs.declared.fault.BindBad.TheVariants as bad;
+ghost use Rattle.pm_names.specs.declared.fault.BindBad.TheVariants as bad;
 ghost use Rattle.pm_binder.specs.Worked.{TextBinds, TextAsksFor, joined_twice, left_joined, totals, hidden_column, counted, swapped};
 
 /// Sources: at most eight; a table that is not there is told before a name that is not; an alias is given or taken.

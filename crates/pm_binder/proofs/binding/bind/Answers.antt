@@ -1,8 +1,8 @@
 use Rattle.std.proofs.Common.{◌≡◌, Ok, ap, sym, ◌∙◌, inl, inr}
-use Rattle.pm_binder.specs.Breaches.{verdict, outcome}
-use Rattle.pm_binder.specs.Sources.{from_breaches}
+use Rattle.pm_names.specs.Breaches.{verdict, outcome}
+use Rattle.pm_names.specs.Sources.{from_breaches}
 use Rattle.pm_binder.specs.Bound.{further_breaches, query}
-use Rattle.pm_binder.proofs.Along.{none_from_ok}
+use Rattle.pm_names.proofs.Along.{none_from_ok}
 use Rattle.pm_binder.proofs.Few.{few_sources}
 use Rattle.pm_binder.proofs.Outcomes.{outcome_after}
 use Rattle.pm_binder.proofs.binding.bind.Goals as goal

@@ -1,7 +1,7 @@
 use Rattle.std.proofs.Common.{◌≡◌, ◌≤◌, ◌<◌, ◌+◌, ◌^◌, length, Ok, Err, ap, sym, subst, ◌∙◌, arith, inl}
 use Rattle.std.proofs.lemmas.Result.{err_from_is_err_and}
-use Rattle.pm_binder.specs.Breaches.{verdict}
-use Rattle.pm_binder.specs.Sources.{known_columns}
+use Rattle.pm_names.specs.Breaches.{verdict}
+use Rattle.pm_names.specs.Sources.{known_columns}
 use Rattle.pm_binder.specs.Conjuncts.{conjuncts, join_breaches}
 use Rattle.pm_binder.specs.Grouping.{terms_of, grouping_breaches, shape_of}
 use Rattle.pm_binder.specs.Bound.{text_breaches, resolved, query_of, query}

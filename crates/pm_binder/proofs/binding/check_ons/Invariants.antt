@@ -1,5 +1,5 @@
 use Rattle.std.proofs.Common.{◌≡◌, [], take}
-use Rattle.pm_binder.specs.Breaches.{each_from}
+use Rattle.pm_names.specs.Breaches.{each_from}
 use Rattle.pm_binder.specs.Bound.{on_breaches}
 use Rattle.pm_binder.proofs.binding.check_ons.Given as goal
 

@@ -1,5 +1,5 @@
 use Rattle.std.proofs.Common.{◌≡◌, [], ◌∷◌}
-use Rattle.pm_binder.specs.Conditions.{whole_row, cond_of}
+use Rattle.pm_names.specs.Conditions.{whole_row, cond_of}
 use Rattle.pm_binder.specs.Conjuncts.{test_conjuncts}
 use Rattle.pm_binder.proofs.Splits.{one_any, one_not}
 use Rattle.pm_binder.proofs.conjuncts.+push_test.Goals as goal

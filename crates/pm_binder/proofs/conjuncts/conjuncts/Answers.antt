@@ -1,6 +1,6 @@
 use Rattle.std.proofs.Common.{arith, ◌∙◌, sym}
 use Rattle.pm_binder.specs.Conjuncts.{on_conjuncts}
-use Rattle.pm_binder.proofs.Along.{each_more}
+use Rattle.pm_names.proofs.Along.{each_more}
 use Rattle.pm_binder.proofs.conjuncts.conjuncts.Goals as goal
 
 pub sources-preserved : goal.sources-preserved

@@ -1,8 +1,8 @@
 use Rattle.std.proofs.Common.{◌++◌, [], fold, ◌∙◌, ap, sym}
 use Rattle.pm_query.specs.Bound.{same_aggregate}
-use Rattle.pm_binder.specs.Breaches.{added}
+use Rattle.pm_names.specs.Breaches.{added}
 use Rattle.pm_binder.specs.Grouping.{placed_calls, ordered_calls}
-use Rattle.pm_binder.proofs.Once.{once_fold, equal_aggregates}
+use Rattle.pm_names.proofs.Once.{once_fold, equal_aggregates}
 use Rattle.pm_binder.proofs.grouping.calls_of.Goals as goal
 
 pub returns : goal.returns

@@ -1,7 +1,7 @@
 use Rattle.std.proofs.Common.{◌∙◌, ap, Err, arith}
 use Rattle.std.proofs.lemmas.Result.{err_from_is_err_and}
 use Rattle.pm_binder.specs.Grouping.{ungrouped}
-use Rattle.pm_binder.proofs.Along.{told_plain, none_plain}
+use Rattle.pm_names.proofs.Along.{told_plain, none_plain}
 use Rattle.pm_binder.proofs.grouping.check_terms.Goals as goal
 
 pub returns-in_err-check_term : goal.returns-in_err-check_term

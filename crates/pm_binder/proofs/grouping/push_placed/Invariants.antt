@@ -1,6 +1,6 @@
 use Rattle.std.proofs.Common.{◌≡◌, take, fold}
 use Rattle.pm_query.specs.Bound.{same_aggregate}
-use Rattle.pm_binder.specs.Breaches.{added}
+use Rattle.pm_names.specs.Breaches.{added}
 use Rattle.pm_binder.specs.Grouping.{placed_calls}
 use Rattle.pm_binder.proofs.grouping.push_placed.Given as goal
 

@@ -1,7 +1,7 @@
 use Rattle.std.proofs.Common.{◌≡◌, true, get_or, arith, sym, ◌∙◌}
 use Rattle.std.proofs.lemmas.List.Folds.{list_any_at}
 use Rattle.pm_query.specs.Columns.{reads}
-use Rattle.pm_binder.proofs.Steps.{any_map}
+use Rattle.pm_names.proofs.Steps.{any_map}
 use Rattle.pm_binder.proofs.joins.+reads.Goals as goal
 
 pub some_reads-returns-then-reads : goal.some_reads-returns-then-reads

@@ -1,7 +1,7 @@
 use Rattle.std.proofs.Common.{◌≡◌, false, get_or, arith, rules, sym}
 use Rattle.std.proofs.lemmas.List.Folds.{list_all_at}
 use Rattle.pm_query.specs.Columns.{within}
-use Rattle.pm_binder.proofs.Steps.{all_map}
+use Rattle.pm_names.proofs.Steps.{all_map}
 use Rattle.pm_binder.proofs.joins.+within.Goals as goal
 
 pub all_within-returns-then-not-within : goal.all_within-returns-then-not-within

@@ -1,7 +1,7 @@
 use Rattle.std.proofs.Common.{◌∙◌, ap, Err, arith}
 use Rattle.std.proofs.lemmas.Result.{err_from_is_err_and}
 use Rattle.pm_binder.specs.Conjuncts.{later_breaches}
-use Rattle.pm_binder.proofs.Along.{each_told, each_none_more}
+use Rattle.pm_names.proofs.Along.{each_told, each_none_more}
 use Rattle.pm_binder.proofs.joins.check_joins.Goals as goal
 
 pub returns-in_err-check_later : goal.returns-in_err-check_later

@@ -1,5 +1,5 @@
 use Rattle.std.proofs.Common.{◌∙◌, sym}
-use Rattle.pm_binder.proofs.Steps.{all_more}
+use Rattle.pm_binder.proofs.Ranges.{all_more}
 use Rattle.pm_binder.proofs.selection.all_terms.Goals as goal
 
 pub loop-column-preserved : goal.loop-column-preserved

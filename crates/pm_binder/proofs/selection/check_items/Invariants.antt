@@ -1,6 +1,6 @@
 use Rattle.std.proofs.Common.{◌≡◌, [], take}
 use Rattle.std.specs.List.{flat_map}
-use Rattle.pm_binder.specs.Names.{expr_breaches}
+use Rattle.pm_names.specs.Names.{expr_breaches}
 use Rattle.pm_binder.proofs.selection.check_items.Given as goal
 
 abbrev pub invariant-loop-item : goal.invariant-loop-item

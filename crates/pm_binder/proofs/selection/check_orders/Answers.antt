@@ -1,7 +1,7 @@
 use Rattle.std.proofs.Common.{◌∙◌, ap, Err, arith}
 use Rattle.std.proofs.lemmas.Result.{err_from_is_err_and}
 use Rattle.pm_binder.specs.Grouping.{order_breaches}
-use Rattle.pm_binder.proofs.Along.{told_at, none_more}
+use Rattle.pm_names.proofs.Along.{told_at, none_more}
 use Rattle.pm_binder.proofs.selection.check_orders.Goals as goal
 
 pub returns-in_err-check_order : goal.returns-in_err-check_order

@@ -1,7 +1,7 @@
 use Rattle.std.proofs.Common.{nat_eq, arith, ◌∙◌, sym}
 use Rattle.std.proofs.lemmas.Bool.{eqb-true}
-use Rattle.pm_binder.specs.Names.{column_of}
-use Rattle.pm_binder.proofs.Once.{once_more}
+use Rattle.pm_names.specs.Names.{column_of}
+use Rattle.pm_names.proofs.Once.{once_more}
 use Rattle.pm_binder.proofs.selection.key_columns.Goals as goal
 
 pub loop-name-preserved : goal.loop-name-preserved

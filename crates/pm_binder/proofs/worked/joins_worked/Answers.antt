@@ -10,8 +10,8 @@ use Rattle.pm_syntax.specs.Reading.{column_after, column_at, call_after, expr_af
 use Rattle.pm_values.proofs.Folds.{fold_compare as cond_compare}
 use Rattle.pm_canonical.specs.Canon.{canon_expr, canon_column}
 use Rattle.pm_canonical.proofs.Folds.{fold_all, fold_compare}
-use Rattle.pm_binder.specs.declared.fault.BindBad.TheVariants as bad
-use Rattle.pm_binder.specs.Names.{name_breaches}
+use Rattle.pm_names.specs.declared.fault.BindBad.TheVariants as bad
+use Rattle.pm_names.specs.Names.{name_breaches}
 use Rattle.pm_binder.proofs.Texts.{lexed, select_of, binds}
 use Rattle.pm_binder.proofs.worked.joins_worked.Goals as goal
 

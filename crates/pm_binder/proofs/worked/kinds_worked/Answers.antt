@@ -9,8 +9,8 @@ use Rattle.pm_syntax.specs.Terminals.{func_named}
 use Rattle.pm_syntax.specs.Reading.{column_after, column_at, call_after, expr_after, expr_at, literal_at, term_at, operand_at, literals_at, compare_after, null_after, in_after, between_after, range_after, test_after, test_at, ands_at, cond_at, part_peek, part_at, condition_at, given_at, item_at, items_at, link_at, join_condition_at, on_at, source_at, sources_at, where_at, having_at, groups_at, direction_at, key_at, orders_at, select_at}
 use Rattle.pm_canonical.specs.Canon.{canon_expr, canon_column}
 use Rattle.pm_canonical.proofs.Folds.{fold_compare, fold_between}
-use Rattle.pm_binder.specs.declared.fault.BindBad.TheVariants as bad
-use Rattle.pm_binder.specs.Names.{name_breaches}
+use Rattle.pm_names.specs.declared.fault.BindBad.TheVariants as bad
+use Rattle.pm_names.specs.Names.{name_breaches}
 use Rattle.pm_binder.proofs.Texts.{lexed, select_of, binds}
 use Rattle.pm_binder.proofs.worked.kinds_worked.Goals as goal
 

@@ -12,7 +12,7 @@ use Rattle.pm_canonical.specs.Canon.{canon_expr, canon_column}
 use Rattle.pm_canonical.proofs.Folds.{fold_all, fold_compare, fold_one_of}
 use Rattle.pm_plan.specs.Worked.{customer_decl, order_decl}
 use Rattle.pm_query.specs.Worked.{large_orders}
-use Rattle.pm_binder.specs.Names.{name_breaches}
+use Rattle.pm_names.specs.Names.{name_breaches}
 use Rattle.pm_binder.specs.Worked.{joined_twice, left_joined, totals, hidden_column, counted, swapped}
 use Rattle.pm_binder.proofs.Texts.{lexed, select_of, binds, binds_query}
 use Rattle.pm_binder.proofs.worked.queries_worked.Goals as goal

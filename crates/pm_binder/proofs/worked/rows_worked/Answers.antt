@@ -11,7 +11,7 @@ use Rattle.pm_canonical.specs.Canon.{canon_expr, canon_column}
 use Rattle.pm_canonical.proofs.Folds.{fold_all, fold_compare, fold_null, fold_one_of, fold_between}
 use Rattle.pm_values.specs.declared.value.Value.TheVariants.{Null, Text}
 use Rattle.pm_plan.specs.Worked.{number, shop}
-use Rattle.pm_binder.specs.Names.{name_breaches}
+use Rattle.pm_names.specs.Names.{name_breaches}
 use Rattle.pm_binder.proofs.Texts.{lexed, select_of, asks_for}
 use Rattle.pm_binder.proofs.worked.rows_worked.Goals as goal
 

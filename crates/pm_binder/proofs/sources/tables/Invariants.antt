@@ -1,6 +1,0 @@
-use Rattle.std.proofs.Common.{◌≡◌, take}
-use Rattle.pm_binder.specs.Sources.{tables_at}
-use Rattle.pm_binder.proofs.sources.tables.Given as goal
-
-abbrev pub invariant-loop-place : goal.invariant-loop-place
-invariant-loop-place l = l.tables ≡ tables_at l.schema (take l.place-index l.places)

@@ -1,6 +1,0 @@
-use Rattle.std.proofs.Common.{◌≡◌, ◌≤◌, ◌*◌, length, take}
-use Rattle.pm_binder.specs.Sources.{known_columns}
-use Rattle.pm_binder.proofs.sources.width.Given as goal
-
-abbrev pub invariant-loop-source : goal.invariant-loop-source
-invariant-loop-source l = record { value : l.width ≡ length (known_columns l.schema (take l.source-index l.sources)); narrow : l.width ≤ 64 * l.source-index }

@@ -1,0 +1,5 @@
+pub mod Breaches
+pub mod Sources
+pub mod Names
+pub mod Kinds
+pub mod Conditions
