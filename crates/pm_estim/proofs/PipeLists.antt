@@ -1,17 +1,19 @@
 -- the pipelines of a tree's nodes as a list: how it is made node by node, and sums over its driver nodes
-use Rattle.std.proofs.Common.{◌≡◌, ℕ, suc, ◌+◌, ◌-◌, ◌<◌, ◌≤◌, ◌*◌, Bool, true, false, not, List, [], ◌∷◌, ◌++◌, length, map, refl, sym, ap, subst, ◌∙◌, append_assoc, length-append, arith}
+use Rattle.std.proofs.Common.{◌≡◌, ℕ, ◌+◌, ◌-◌, ◌<◌, ◌≤◌, Bool, true, false, not, List, [], ◌∷◌, ◌++◌, length, map, refl, sym, ap, subst, ◌∙◌, append_assoc, length-append, arith}
 use Rattle.std.specs.Prelude.{if◌then◌else◌, sum_by, Option}
 use Rattle.std.specs.List.{zip}
 use Rattle.std.proofs.lemmas.List.Sums.{sum_by-cons, sum_by-append}
+use Rattle.std.proofs.lemmas.Option.{slice_get_within}
 use Rattle.pm_values.specs.declared.condition.Cond.{Cond}
-use Rattle.pm_plan.specs.declared.gauge.Gauge.{Gauge}
-use Rattle.pm_plan.specs.declared.gauge.Bound.{Bound}
 use Rattle.pm_plan.specs.declared.plan.Label.{Label}
 use Rattle.pm_plan.specs.Tree.{Unary, Filter, Project, Sort, Group, Method, Hash, Merge, On, Tree, Scan, Over, Join, Index, Seek, size, right_number, streams, list_at}
+use Rattle.pm_plan.specs.declared.plan.Node.{Node}
+use Rattle.pm_plan.specs.Preorder.{node_of, IsTreeAt}
+use Rattle.pm_plan.proofs.Inversion.{root_is}
 use Rattle.pm_plan.proofs.Walks.{length-list_at}
 use Rattle.pm_estim.specs.declared.pipes.Pipe.{Pipe}
 use Rattle.pm_estim.specs.declared.pipes.Numbers.{Numbers}
-use Rattle.pm_estim.specs.Pipelines.{is_driver, drivers_of, cuts, pipes_from, driven}
+use Rattle.pm_estim.specs.Pipelines.{drivers_of, cuts, pipes_from, driven}
 use Rattle.pm_estim.specs.Lists.{pipes_with, driven_sum}
 use Rattle.pm_estim.specs.Steps.{is_built, numbers_below, IsPlaced}
 
@@ -58,21 +60,21 @@ length-pipes own next (Index left seek cond) = omega (arith, length-append (pipe
 
 -- ---- two lists side by side, one part after the other
 
-zip-append : {A B : Type 0} (as : List A) (bs : List B) (cs : List A) (ds : List B) → length as ≡ length bs → zip (as ++ cs) (bs ++ ds) ≡ zip as bs ++ zip cs ds
+zip-append : {A B : Type 0} (xs : List A) (ys : List B) (cs : List A) (ds : List B) → length xs ≡ length ys → zip (xs ++ cs) (ys ++ ds) ≡ zip xs ys ++ zip cs ds
 zip-append [] [] cs ds e = refl
-zip-append [] (b ∷ bs) cs ds e = absurd (omega (arith, e))
-zip-append (a ∷ as) [] cs ds e = absurd (omega (arith, e))
-zip-append (a ∷ as) (b ∷ bs) cs ds e = ap (λ l. (a, b) ∷ l) (zip-append as bs cs ds (omega (arith, e)))
+zip-append [] (b ∷ ys) cs ds e = absurd (omega (arith, e))
+zip-append (a ∷ xs) [] cs ds e = absurd (omega (arith, e))
+zip-append (a ∷ xs) (b ∷ ys) cs ds e = ap (λ l. (a, b) ∷ l) (zip-append xs ys cs ds (omega (arith, e)))
 
 map-two : (f : (ℕ × Bool) → Pipe) (xs ys : List (ℕ × Bool)) → map f (xs ++ ys) ≡ map f xs ++ map f ys
 map-two f [] ys = refl
 map-two f (x ∷ xs) ys = ap (λ l. f x ∷ l) (map-two f xs ys)
 
-length-zip : (as : List ℕ) (bs : List Bool) → length as ≡ length bs → length (zip as bs) ≡ length as
+length-zip : (xs : List ℕ) (ys : List Bool) → length xs ≡ length ys → length (zip xs ys) ≡ length xs
 length-zip [] [] e = refl
-length-zip [] (b ∷ bs) e = refl
-length-zip (a ∷ as) [] e = absurd (omega (arith, e))
-length-zip (a ∷ as) (b ∷ bs) e = omega (arith, length-zip as bs (omega (arith, e)))
+length-zip [] (y ∷ ys) e = refl
+length-zip (x ∷ xs) [] e = absurd (omega (arith, e))
+length-zip (x ∷ xs) (y ∷ ys) e = omega (arith, length-zip xs ys (omega (arith, e)))
 
 length-mapped : (f : (ℕ × Bool) → Pipe) (xs : List (ℕ × Bool)) → length (map f xs) ≡ length xs
 length-mapped f [] = refl
@@ -116,10 +118,11 @@ over_placed u (Sort keys) numbers before mid after next e p =
 over_placed u (Group keys items) numbers before mid after next e p =
     record { pipes = after_one before mid after _ _ e p.pipes; comes = omega (arith, p.comes) }
 
-pub placed_over : (t u : Tree) (op : Unary) (numbers : Numbers) (before mid after : List Pipe) (next : ℕ) → t ≡ Over op u
-    → mid ≡ before ++ pipe numbers.own (not (streams op)) ∷ []
-    → IsPlaced u (numbers_below (not (streams op)) numbers) mid after next → IsPlaced t numbers before after next
-placed_over t u op numbers before mid after next e is p = same_placed t (Over op u) numbers before after next e (over_placed u op numbers before mid after next is p)
+pub placed_over : (t u : Tree) (op : Unary) (numbers below : Numbers) (before mid after : List Pipe) (next : ℕ) → t ≡ Over op u
+    → mid ≡ before ++ pipe numbers.own (not (streams op)) ∷ [] → below ≡ numbers_below (not (streams op)) numbers
+    → IsPlaced u below mid after next → IsPlaced t numbers before after next
+placed_over t u op numbers below before mid after next e is cut p =
+    same_placed t (Over op u) numbers before after next e (over_placed u op numbers before mid after next is (subst (λ m. IsPlaced u m mid after next) cut p))
 
 -- the list after the pipelines of two sides
 after_two : (before mid more after ls rs : List Pipe) (x : Pipe) → mid ≡ before ++ x ∷ [] → more ≡ mid ++ ls → after ≡ more ++ rs → after ≡ before ++ x ∷ (ls ++ rs)
@@ -150,11 +153,16 @@ join_placed l r Merge on numbers before mid more after next last e p q =
       comes = omega (arith, p.comes, q.comes);
     }
 
-pub placed_join : (t l r : Tree) (method : Method) (on : On) (numbers : Numbers) (before mid more after : List Pipe) (next last : ℕ) → t ≡ Join method on l r
-    → mid ≡ before ++ pipe numbers.own false ∷ [] → IsPlaced l numbers mid more next → IsPlaced r (numbers_below (is_built method) (numbers_of numbers.own next)) more after last
-    → IsPlaced t numbers before after last
-placed_join t l r method on numbers before mid more after next last e is p q =
-    same_placed t (Join method on l r) numbers before after last e (join_placed l r method on numbers before mid more after next last is p q)
+pub placed_join : (t l r : Tree) (method : Method) (on : On) (numbers below : Numbers) (before mid more after : List Pipe) (next last : ℕ) → t ≡ Join method on l r
+    → mid ≡ before ++ pipe numbers.own false ∷ [] → IsPlaced l numbers mid more next → below ≡ numbers_below (is_built method) (numbers_of numbers.own next)
+    → IsPlaced r below more after last → IsPlaced t numbers before after last
+placed_join t l r method on numbers below before mid more after next last e is p cut q =
+    same_placed t (Join method on l r) numbers before after last e
+    (join_placed l r method on numbers before mid more after next last is p (subst (λ m. IsPlaced r m more after last) cut q))
+
+-- a tree stands within its list
+pub stands_within : (nodes : List Node) (t : Tree) (n : ℕ) → 1 ≤ n → IsTreeAt nodes t n → n ≤ length nodes
+stands_within nodes t n some h = omega (arith, some, slice_get_within nodes (n - 1) (node_of t n) (root_is nodes t n h))
 
 pub placed_index : (t l : Tree) (seek : Seek) (cond : Option Cond) (numbers : Numbers) (before mid more after : List Pipe) (next : ℕ) → t ≡ Index l seek cond
     → mid ≡ before ++ pipe numbers.own false ∷ [] → IsPlaced l numbers mid more next → after ≡ more ++ pipe numbers.own false ∷ [] → IsPlaced t numbers before after next
@@ -169,9 +177,13 @@ placed_index t l seek cond numbers before mid more after next e is p last =
     })
 
 -- the number of the next pipeline never runs ahead of the nodes
-pub next_few : (cut : Bool) (numbers : Numbers) (n : ℕ) → numbers.next ≤ n → (numbers_below cut numbers).next ≤ n + 1
-next_few true numbers n a = omega (arith, a)
-next_few false numbers n a = omega (arith, a)
+pub record AreFew (numbers : Numbers) (n : ℕ) : Type 0 where
+  pub own : numbers.own ≤ n
+  pub next : numbers.next ≤ n + 1
+
+pub few_below : (cut : Bool) (numbers : Numbers) (n : ℕ) → numbers.own ≤ n → numbers.next ≤ n → AreFew (numbers_below cut numbers) n
+few_below true numbers n a b = record { own = b; next = omega (arith, b) }
+few_below false numbers n a b = record { own = a; next = omega (arith, b) }
 
 -- ---- sums over the driver nodes
 
@@ -200,10 +212,10 @@ module _ {X : Type 0} (value : X → ℕ) (f : Tree → ℕ → X) (s : Tree →
 
   driven_with : (own next : ℕ) (t : Tree) (n : ℕ) → sum_by counted (zip (pipes_with (pipes_from own next t) t) (list_at f s t n)) ≡ sums t n
   driven_with own next (Scan table label) n = one_more own true (f (Scan table label) n) [] [] 0 refl ∙ (omega arith)
-  driven_with own next (Over (Filter cond) child) n = one_more own false _ _ _ _ (driven_with own next child (n + 1))
-  driven_with own next (Over (Project columns) child) n = one_more own false _ _ _ _ (driven_with own next child (n + 1))
-  driven_with own next (Over (Sort keys) child) n = one_more own true _ _ _ _ (driven_with next (next + 1) child (n + 1))
-  driven_with own next (Over (Group keys items) child) n = one_more own true _ _ _ _ (driven_with next (next + 1) child (n + 1))
+  driven_with own next (Over (Filter cond) child) n = one_more own false (f (Over (Filter cond) child) n) (pipes_with (pipes_from own next child) child) (list_at f s child (n + 1)) (sums child (n + 1)) (driven_with own next child (n + 1))
+  driven_with own next (Over (Project columns) child) n = one_more own false (f (Over (Project columns) child) n) (pipes_with (pipes_from own next child) child) (list_at f s child (n + 1)) (sums child (n + 1)) (driven_with own next child (n + 1))
+  driven_with own next (Over (Sort keys) child) n = one_more own true (f (Over (Sort keys) child) n) (pipes_with (pipes_from next (next + 1) child) child) (list_at f s child (n + 1)) (sums child (n + 1)) (driven_with next (next + 1) child (n + 1))
+  driven_with own next (Over (Group keys items) child) n = one_more own true (f (Over (Group keys items) child) n) (pipes_with (pipes_from next (next + 1) child) child) (list_at f s child (n + 1)) (sums child (n + 1)) (driven_with next (next + 1) child (n + 1))
   driven_with own next (Join (Hash pad) on left right) n =
       let ls : List ℕ = pipes_from own next left in
       let rs : List ℕ = pipes_from (next + cuts left) (next + cuts left + 1) right in

@@ -1,13 +1,11 @@
 -- the pipelines of a plan's nodes as a list in preorder, and what a progress line shows, from lists
-use Rattle.std.specs.Prelude.{◌≡◌, ℕ, ◌+◌, if◌then◌else◌, List, length, map, sum_by}
+use Rattle.std.specs.Prelude.{◌≡◌, ℕ, if◌then◌else◌, List, length, map, sum_by}
 use Rattle.std.specs.List.{zip}
 use Rattle.pm_plan.specs.declared.gauge.Gauge.{Gauge}
 use Rattle.pm_plan.specs.declared.gauge.Bound.{Bound}
 use Rattle.pm_plan.specs.declared.gauge.Whole.{Whole}
 use Rattle.pm_plan.specs.declared.gauge.Shown.{Shown}
-use Rattle.pm_plan.specs.declared.plan.Plan.{Plan}
 use Rattle.pm_plan.specs.Tree.{Tree, size}
-use Rattle.pm_plan.specs.Preorder.{tree_of}
 use Rattle.pm_work.specs.Moments.{gauge_in}
 use Rattle.pm_bounds.specs.Bounds.{bounds_of, whole_of}
 use Rattle.pm_estim.specs.declared.pipes.Pipe.{Pipe}

@@ -1,5 +1,5 @@
 -- describes steps of bodies: how the nodes of a tree are given their pipelines
-use Rattle.std.specs.Prelude.{◌≡◌, ℕ, ◌+◌, Bool, true, false, not, if◌then◌else◌, List, ◌++◌}
+use Rattle.std.specs.Prelude.{◌≡◌, ℕ, ◌+◌, Bool, true, false, List, ◌++◌}
 use Rattle.pm_plan.specs.declared.plan.Node.{Node}
 use Rattle.pm_plan.specs.Tree.{Tree, Method, Hash, Merge}
 use Rattle.pm_plan.specs.Preorder.{IsTreeAt}

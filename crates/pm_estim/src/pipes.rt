@@ -20,19 +20,19 @@ pub struct Pipe {
 /// The number of a tree's own pipeline, and the number that the next one takes.
 #[derive(Clone, Copy)]
 struct Numbers {
-    own: u32,
+    own: usize,
     next: usize,
 }
 
 impl Numbers {
     // Those below: where there is a cut, the next pipeline begins.
     fn below(self, cut: bool) -> Numbers
-        requires { cut ≡ true → self.next < 2 ^ 32 }
+        requires { self.next < 2 ^ 63 }
         ensures { result ≡ numbers_below cut self }
     {
         if cut {
             Numbers {
-                own: self.next as u32,
+                own: self.next,
                 next: self.next + 1,
             }
         } else {
@@ -64,19 +64,20 @@ fn is_built(method: Method) -> bool
 /// Adds the nodes of the tree of number `n`, and gives the number of the pipeline that comes next.
 fn place(
     nodes: &[Node],
-    n: usize,
+    n: u32,
     numbers: Numbers,
     pipes: &mut Vec<Pipe>,
 ) -> Result<usize, AllocError>
     requires stands { Stands nodes.now n }
-    requires few { numbers.next ≤ n + 1 }
+    requires own { numbers.own ≤ n }
+    requires next { numbers.next ≤ n + 1 }
     ensures { IfOk result (λ next. (t : Tree) → IsTreeAt nodes.now t n → IsPlaced t numbers pipes.old.items pipes.new.items next) }
 {
-    let Some(root) = root_at(nodes, n) else {
+    let Some(root) = root_at(nodes, n as usize) else {
         unreachable!()
     };
     let own = Pipe {
-        number: numbers.own,
+        number: numbers.own as u32,
         driver: false,
     };
     match root {
@@ -93,22 +94,24 @@ fn place(
                 driver: !streams,
                 ..own
             })?;
-            let next = place(nodes, child as usize, numbers.below(!streams), pipes)?;
+            let next = place(nodes, child, numbers.below(!streams), pipes)?;
             Ok(next)
         }
-        Root::Join { method, right, .. } => {
+        Root::Join {
+            method,
+            left,
+            right,
+            ..
+        } => {
             pipes.push(own)?;
-            let next = place(nodes, n + 1, numbers, pipes)?;
-            let rest = Numbers {
-                own: numbers.own,
-                next,
-            };
-            let next = place(nodes, right as usize, rest.below(is_built(method)), pipes)?;
-            Ok(next)
+            let next = place(nodes, left, numbers, pipes)?;
+            let rest = Numbers { next, ..numbers };
+            let last = place(nodes, right, rest.below(is_built(method)), pipes)?;
+            Ok(last)
         }
-        Root::Index { .. } => {
+        Root::Index { left, .. } => {
             pipes.push(own)?;
-            let next = place(nodes, n + 1, numbers, pipes)?;
+            let next = place(nodes, left, numbers, pipes)?;
             pipes.push(own)?;
             Ok(next)
         }

@@ -17,7 +17,14 @@ pub fn estimate(pipes: &Pipes, gauges: &[Gauge], bounds: &[Bound], whole: &Whole
     ensures exact { result ≡ estimated pipes.now gauges.now bounds.now whole.now }
     ensures shown { (tree : Tree) → AreOf tree pipes.now gauges.now bounds.now whole.now → result ≡ shown_of tree (gauge_in gauges.now) }
 {
-    let pipes = pipes.as_slice();
+    shown_from(pipes.as_slice(), gauges, bounds, whole)
+}
+
+fn shown_from(pipes: &[Pipe], gauges: &[Gauge], bounds: &[Bound], whole: &Whole) -> Shown
+    requires handed { driven_sum (λ gauge. gauge.handed) pipes.now gauges.now < 2 ^ 128 }
+    requires within { driven_sum (λ bound. bound.hi) pipes.now bounds.now < 2 ^ 128 }
+    ensures { result ≡ estimated pipes.now gauges.now bounds.now whole.now }
+{
     let safe_den = match whole.lo.checked_mul(whole.hi) {
         Some(product) => Some(root_floor(product)),
         None => None,
