@@ -9,6 +9,7 @@ use std::sync::atomic::{AtomicU64, Ordering};
 use std::test::Fail;
 
 /// Counts the entries of two parts, and notes where one saw no entry of the other.
+#[derive(Drop)]
 struct Meeting {
     first: AtomicU64,
     second: AtomicU64,
@@ -130,10 +131,5 @@ fn two_at_once(rt: HostRuntime) -> Result<(), Fail> {
     assert!(rt; answer(alloc, table)?.as_str() == "1000");
     assert!(rt; gate.first.load(Ordering::SeqCst) == 1 && gate.second.load(Ordering::SeqCst) == 1);
     assert!(rt; gate.missed.load(Ordering::SeqCst) == 0);
-    let Meeting {
-        first: _,
-        second: _,
-        missed: _,
-    } = gate;
     Ok(())
 }
