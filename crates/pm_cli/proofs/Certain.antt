@@ -18,8 +18,8 @@ use Rattle.pm_cli.specs.Certified.{IsCertifiedRun}
 use Rattle.pm_cli.proofs.TableRows.{rows-answer}
 
 -- the plan goes along no reference, so the numbers are those of the table without any
-abbrev unreferring : Relation → Relation
-unreferring table = record table { decl = record table.decl { references = [] } }
+abbrev without_references : Relation → Relation
+without_references table = record table { decl = record table.decl { references = [] } }
 
 length-below : (n : ℕ) → length (below n) ≡ n
 length-below zero = refl
@@ -31,10 +31,10 @@ all-below (suc n) wide h =
     let last : nat_lt n wide ≡ true = grind (arith, nat_tests) in
     rw (list_all-append (λ c. nat_lt c wide) (below n) (n ∷ []), all-below n wide (omega arith), last) refl
 
-sound : (table : Relation) → IsRelation table → IsSound (unreferring table ∷ []) (tree_over table.decl)
+sound : (table : Relation) → IsRelation table → IsSound (without_references table ∷ []) (tree_over table.decl)
 sound table declared =
     let columns = table.decl.columns in
-    let db : Db = unreferring table ∷ [] in
+    let db : Db = without_references table ∷ [] in
     let one : List ℕ = 0 ∷ [] in
     let none : ReferencesBetween db 0 0 = All-from_recursion _ [] tt in
     let each : All (ReferencesBetween db 0) one = All-from_recursion (ReferencesBetween db 0) one (none, tt) in
@@ -44,7 +44,7 @@ sound table declared =
     λ f. omega (arith, length-map (below (length columns)) f, length-below (length columns), narrow) in
     record {
       tables =
-          All-from_recursion IsRelation (unreferring table ∷ []) (
+          All-from_recursion IsRelation (without_references table ∷ []) (
             record {
               declared = record {
                 narrow = narrow;
@@ -67,7 +67,7 @@ sound table declared =
 under : (top n most : ℕ) → n ≤ most → min top n ≤ most
 under top n most h = omega arith
 
-bounded : (table : Relation) → IsRelation table → first_bound (sizes_of (unreferring table ∷ [])) (tree_over table.decl) ≤ most_work
+bounded : (table : Relation) → IsRelation table → first_bound (sizes_of (without_references table ∷ [])) (tree_over table.decl) ≤ most_work
 bounded table declared =
     let rows = length table.rows in
     let few : rows ≤ 2 ^ 24 = declared.few in
@@ -76,8 +76,8 @@ bounded table declared =
 pub certified : (place : ℕ) (table : Relation) → IsRelation table
     → IsCertifiedRun (query_over place table.decl) (plan_over table.decl) (table ∷ [])
 certified place table declared =
-    let c : AreCertified (unreferring table ∷ []) (tree_over table.decl) =
-    certified_numbers (unreferring table ∷ []) (tree_over table.decl) (sound table declared) (bounded table declared) in
+    let c : AreCertified (without_references table ∷ []) (tree_over table.decl) =
+    certified_numbers (without_references table ∷ []) (tree_over table.decl) (sound table declared) (bounded table declared) in
     record {
       numbers = record {
         each = c.each;
