@@ -1,0 +1,6 @@
+pub mod Scans
+pub mod Streams
+pub mod Comings
+pub mod Begins
+pub mod Works
+pub mod Steps

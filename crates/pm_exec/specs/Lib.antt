@@ -1,0 +1,10 @@
+pub mod Coming
+pub mod Flow
+pub mod ScanFlow
+pub mod FilterFlow
+pub mod ProjectFlow
+pub mod IterFlow
+pub mod Plan
+pub mod Ran
+pub mod Memory
+pub mod Running
