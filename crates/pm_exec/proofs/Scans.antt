@@ -46,3 +46,7 @@ pub last_of-before : (k : ℕ) (table : Relation) (rows : List Row) (row : Row) 
 last_of-before zero table rows row some same is = absurd (some refl)
 last_of-before (suc k) table rows row some same is =
     get_or_from_slice_get table.rows k row (nulls table) (ap (λ r. slice_get r k) (sym same) ∙ (rw sub-one at is))
+
+-- the row that comes next
+pub next_row : (k : ℕ) (table : Relation) (rows : List Row) (row : Row) → rows ≡ table.rows → slice_get rows k ≡ Some row → last_of (k + 1) table ≡ row
+next_row k table rows row same is = rw add-one (get_or_from_slice_get table.rows k row (nulls table) (ap (λ r. slice_get r k) (sym same) ∙ is))

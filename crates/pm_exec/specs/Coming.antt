@@ -1,5 +1,6 @@
 -- the events that an iterator has to come, with what the node that reads each row knows by it
 use Rattle.std.specs.Prelude.{ℕ, ◌+◌, ◌==◌, Bool, true, if◌then◌else◌, List, [], ◌∷◌, ◌++◌, map}
+use Rattle.std.specs.List.{filter}
 use Rattle.pm_values.specs.Row.{Row}
 use Rattle.pm_work.specs.Events.{Event}
 use Rattle.pm_exec.specs.declared.taken.Taken.{Taken}
@@ -39,3 +40,7 @@ after c reads called (e ∷ es) =
 -- node n hands out these rows next, and right after each row of its child those that the row calls for, where it settles so many
 abbrev pub streamed : ℕ → (Row → ℕ) → (Row → List Row) → List Row → List Coming → List Coming
 streamed n settles called next below = rows_by n true next ++ after (n + 1) (read n settles) (λ row. rows_by n true (called row)) below
+
+-- the rows of node c among these events
+abbrev pub rows_in : ℕ → List Coming → List Row
+rows_in c es = map (λ e. e.row) (filter (λ e. e.taken.node == c) es)

@@ -43,6 +43,12 @@ pub record TakesRow (old : Flow) (row : Row) (new : Flow) : Type 0 where
   pub next : old.rest ≡ record { taken = taken_by old.node; row = row; free = true } ∷ new.rest
   pub hand : new.hand ≡ row
 
+-- the next event is this row of its own
+pub record StartsWith (f : Flow) (row : Row) : Type 0 where
+  pub later : List Coming
+  pub next : f.rest ≡ record { taken = taken_by f.node; row = row; free = true } ∷ later
+  pub wide : length row ≡ length f.hand
+
 -- what no step changes
 pub record Keeps (old new : Flow) : Type 0 where
   pub node : new.node ≡ old.node

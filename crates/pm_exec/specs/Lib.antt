@@ -1,8 +1,13 @@
 pub mod Coming
+pub mod Hashed
 pub mod Flow
 pub mod ScanFlow
 pub mod FilterFlow
 pub mod ProjectFlow
+pub mod SideFlow
+pub mod BuildFlow
+pub mod HashFlow
+pub mod KeyColumns
 pub mod IterFlow
 pub mod Plan
 pub mod Ran

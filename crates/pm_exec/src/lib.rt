@@ -4,14 +4,19 @@
 //! events that it has to come, and the row at hand.
 #![tactic(auto)]
 
+mod build;
+mod columns;
 mod declared;
 mod exec;
 mod filter;
+mod hash;
 mod iter;
 mod project;
 mod scan;
+mod side;
 mod taken;
 mod tick;
 
+pub use columns::{JoinColumns, KeyColumns, key_columns};
 pub use exec::Exec;
 pub use tick::Tick;

@@ -39,6 +39,18 @@ impl Taken {
             worst: 0,
         }
     }
+
+    /// The same event, whose row this hash join reads in, and with it has so many right rows of one key.
+    pub fn read_in(self, reader: u32, worst: u64) -> Taken
+        ensures { result ≡ taken_read reader 0 worst self }
+    {
+        Taken {
+            node: self.node,
+            reader,
+            settled: 0,
+            worst,
+        }
+    }
 }
 
 /// One row, or none.
