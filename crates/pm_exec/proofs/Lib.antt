@@ -4,6 +4,9 @@ pub mod Builds
 pub mod Sides
 pub mod Hashes
 pub mod HashSteps
+pub mod Notes
+pub mod Noting
+pub mod GaugeLists
 pub mod Comings
 pub mod Begins
 pub mod Joins

@@ -8,6 +8,7 @@ pub mod SideFlow
 pub mod BuildFlow
 pub mod HashFlow
 pub mod KeyColumns
+pub mod Noted
 pub mod IterFlow
 pub mod Plan
 pub mod Ran

@@ -11,6 +11,7 @@ mod exec;
 mod filter;
 mod hash;
 mod iter;
+mod laws;
 mod project;
 mod scan;
 mod side;
