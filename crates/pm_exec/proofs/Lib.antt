@@ -1,0 +1,14 @@
+pub mod Scans
+pub mod Streams
+pub mod Builds
+pub mod Sides
+pub mod Hashes
+pub mod HashSteps
+pub mod Notes
+pub mod Noting
+pub mod GaugeLists
+pub mod Comings
+pub mod Begins
+pub mod Joins
+pub mod Works
+pub mod Steps

@@ -1,0 +1,16 @@
+pub mod Coming
+pub mod Hashed
+pub mod Flow
+pub mod ScanFlow
+pub mod FilterFlow
+pub mod ProjectFlow
+pub mod SideFlow
+pub mod BuildFlow
+pub mod HashFlow
+pub mod KeyColumns
+pub mod Noted
+pub mod IterFlow
+pub mod Plan
+pub mod Ran
+pub mod Memory
+pub mod Running

@@ -1,0 +1,146 @@
+-- the events of a tree as the iterators over it have them to come
+use Rattle.std.specs.Prelude.{◌≡◌, ℕ, ◌+◌, ◌-◌, ◌<◌, ◌≤◌, ◌^◌, ◌==◌, Bool, true, false, ◌&&◌, if◌then◌else◌, List, [], ◌∷◌, ◌++◌, map, length, All}
+use Rattle.pm_values.specs.Row.{Row, AllBelow}
+use Rattle.pm_values.specs.WellFormed.{IsWellFormed}
+use Rattle.pm_values.specs.Table.{IsRelation}
+use Rattle.pm_plan.specs.declared.plan.Node.{Node}
+use Rattle.pm_plan.specs.declared.plan.Pair.{Pair}
+use Rattle.pm_plan.specs.Rows.{Db, table_rows, decls_of}
+use Rattle.pm_plan.specs.Joins.{left_columns, right_columns}
+use Rattle.pm_plan.specs.Tree.{Unary, Filter, Project, Sort, Group, Method, Hash, Merge, Tree, Scan, Over, Join, Index, streams, right_number}
+use Rattle.pm_plan.specs.Preorder.{IsTreeAt}
+use Rattle.pm_plan.specs.Kinds.{width}
+use Rattle.pm_plan.specs.Outputs.{rows_over}
+use Rattle.pm_plan.specs.Valid.{is_source, IsValidTree}
+use Rattle.pm_work.specs.Events.{events}
+use Rattle.pm_work.specs.Changes.{settled_by_row}
+use Rattle.pm_exec.specs.Coming.{Coming, taken_read, rows_by, read, rows_in, streamed}
+use Rattle.pm_exec.specs.Hashed.{hashed}
+use Rattle.pm_exec.specs.Flow.{Flow}
+
+-- node n takes these events in before it hands out a row, the rows of its child after the first ones, and each step may take memory
+abbrev pub taken_in : ℕ → (List Row → Row → ℕ) → List Row → List Coming → List Coming
+taken_in n settles rows [] = []
+taken_in n settles rows (e ∷ es) =
+    if e.taken.node == n + 1
+    then record { taken = taken_read n (settles rows e.row) 0 e.taken; row = e.row; free = false } ∷ taken_in n settles (rows ++ e.row ∷ []) es
+    else record { taken = e.taken; row = e.row; free = false } ∷ taken_in n settles rows es
+
+-- an operator over a child with these events: right after each row of the child what that row calls for, or all at the end
+abbrev pub coming_over : Unary → ℕ → List Coming → List Coming
+coming_over op n below =
+    if streams op then streamed n (settled_by_row op []) (λ row. rows_over op (row ∷ [])) [] below
+    else taken_in n (settled_by_row op) [] below ++ rows_by n false (rows_over op (rows_in (n + 1) below))
+
+-- a join whose sides have these events, the right side having number r and rows of so many columns
+abbrev pub coming_joined : Method → List Pair → ℕ → ℕ → ℕ → List Coming → List Coming → List Coming
+coming_joined (Hash pad) pairs n r wide lefts rights = hashed n pad pairs r wide rights lefts
+coming_joined Merge pairs n r wide lefts rights = []
+
+-- the operators that are run so far
+abbrev pub is_run_over : Unary → Bool
+is_run_over (Filter cond) = true
+is_run_over (Project columns) = true
+is_run_over (Sort keys) = false
+is_run_over (Group keys items) = false
+
+abbrev pub is_run_method : Method → Bool
+is_run_method (Hash pad) = true
+is_run_method Merge = false
+
+abbrev pub is_run : Tree → Bool
+is_run (Scan table label) = true
+is_run (Over op child) = is_run_over op && is_run child
+is_run (Join method on left right) = is_run_method method && (is_run left && is_run right)
+is_run (Index left seek cond) = false
+
+-- the events of a tree whose root has number n
+abbrev pub coming : Db → Tree → ℕ → List Coming
+coming db (Scan table label) n = rows_by n true (table_rows db table)
+coming db (Over op child) n = coming_over op n (coming db child (n + 1))
+coming db (Join method on left right) n =
+    coming_joined method on.pairs n (right_number n left) (width (decls_of db) right) (coming db left (n + 1)) (coming db right (right_number n left))
+coming db (Index left seek cond) n = []
+
+-- the step at the end takes no memory
+abbrev pub ends_free : Tree → Bool
+ends_free (Scan table label) = true
+ends_free (Over op child) = streams op && ends_free child
+ends_free (Join method on left right) = ends_free left && ends_free right
+ends_free (Index left seek cond) = ends_free left
+
+-- a valid tree of these operators stands at node n of the list, and its events can be counted in 128 bits
+pub record IsRunnable (nodes : List Node) (db : Db) (n : ℕ) : Type 0 where
+  pub some : 1 ≤ n
+  pub tree : Tree
+  pub stands : IsTreeAt nodes tree n
+  pub tables : All IsRelation db
+  pub operators : IsValidTree (decls_of db) tree
+  pub run : is_run tree ≡ true
+  pub few : length (events db tree n) < 2 ^ 128
+
+-- an iterator of the tree's root, which has number n, has all events to come
+pub record IsFresh (db : Db) (tree : Tree) (n : ℕ) (f : Flow) : Type 0 where
+  pub node : f.node ≡ n
+  pub small : n < 2 ^ 32
+  pub rest : f.rest ≡ coming db tree n
+  pub free_end : f.free_end ≡ ends_free tree
+  pub width : length f.hand ≡ width (decls_of db) tree
+
+-- what an operator asks of the rows of its child
+abbrev pub CanRead : Unary → ℕ → Type 0
+CanRead (Filter cond) wide = IsWellFormed wide cond
+CanRead (Project columns) wide = AllBelow columns wide
+CanRead (Sort keys) wide = Unit {0}
+CanRead (Group keys items) wide = Unit {0}
+
+-- how many columns its rows have
+abbrev pub wide_over : Unary → ℕ → ℕ
+wide_over (Filter cond) wide = wide
+wide_over (Project columns) wide = length columns
+wide_over (Sort keys) wide = wide
+wide_over (Group keys items) wide = length keys + length items
+
+-- an iterator of node n, of an operator over a child that has handed out nothing
+pub record IsOver (op : Unary) (n : ℕ) (child f : Flow) : Type 0 where
+  pub node : f.node ≡ n
+  pub rest : f.rest ≡ coming_over op n child.rest
+  pub free_end : f.free_end ≡ (streams op && child.free_end)
+  pub width : length f.hand ≡ wide_over op (length child.hand)
+
+-- a valid scan, or a filter over one, stands at node n of the list
+pub record IsSideAt (nodes : List Node) (db : Db) (n : ℕ) : Type 0 where
+  pub tree : Tree
+  pub stands : IsTreeAt nodes tree n
+  pub tables : All IsRelation db
+  pub operators : IsValidTree (decls_of db) tree
+  pub source : is_source tree ≡ true
+
+-- a side that has all events of this tree to come
+pub record IsFreshSide (db : Db) (tree : Tree) (n : ℕ) (f : Flow) : Type 0 where
+  pub node : f.node ≡ n
+  pub rest : f.rest ≡ coming db tree n
+  pub width : length f.hand ≡ width (decls_of db) tree
+  pub room : length f.rest ≤ 2 ^ 25
+  pub ends : ends_free tree ≡ true
+
+-- what a join asks of its sides, which have handed out nothing
+pub record CanJoin (n : ℕ) (pairs : List Pair) (l r : Flow) : Type 0 where
+  pub left : l.node ≡ n + 1
+  pub numbered : n + 1 < 2 ^ 32
+  pub right : n + 1 < r.node
+  pub narrow : length l.hand + length r.hand < 2 ^ 32
+  pub lefts : AllBelow (left_columns pairs) (length l.hand)
+  pub rights : AllBelow (right_columns pairs) (length r.hand)
+  pub few : length pairs < 2 ^ 32
+  pub room : length r.rest < 2 ^ 32 - 1
+
+abbrev pub joined : Method → ℕ → List Pair → Flow → Flow → List Coming
+joined method n pairs left right = coming_joined method pairs n right.node (length right.hand) left.rest right.rest
+
+-- an iterator of node n, of a join of these sides
+pub record IsJoined (method : Method) (n : ℕ) (pairs : List Pair) (left right f : Flow) : Type 0 where
+  pub node : f.node ≡ n
+  pub rest : f.rest ≡ joined method n pairs left right
+  pub free_end : f.free_end ≡ left.free_end
+  pub width : length f.hand ≡ length left.hand + length right.hand

@@ -1,0 +1,23 @@
+//! The operators of a plan as iterators: one step is one event, a row that one operator hands out.
+//!
+//! Iterators are nested in one another and borrow what they read. A contract sees an iterator as a flow: its number, the
+//! events that it has to come, and the row at hand.
+#![tactic(auto)]
+
+mod build;
+mod columns;
+mod declared;
+mod exec;
+mod filter;
+mod hash;
+mod iter;
+mod laws;
+mod project;
+mod scan;
+mod side;
+mod taken;
+mod tick;
+
+pub use columns::{JoinColumns, KeyColumns, key_columns};
+pub use exec::Exec;
+pub use tick::Tick;
