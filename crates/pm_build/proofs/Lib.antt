@@ -4,3 +4,6 @@ pub mod Takes
 pub mod Unique
 pub mod Widths
 pub mod Capped
+pub mod Shapes
+pub mod Found
+pub mod Joined

@@ -1,5 +1,5 @@
 -- a tree is unique on columns as on those of them that it has
-use Rattle.std.proofs.Common.{◌≡◌, ◌≤◌, ◌<◌, ◌+◌, ℕ, suc, zero, true, false, ◌&&◌, ◌||◌, List, [], ◌∷◌, length, map, Option, None, Some, get_or, slice_get, refl, sym, ap, ◌∙◌, subst, arith, length-append}
+use Rattle.std.proofs.Common.{◌≡◌, ◌≤◌, ◌<◌, ◌+◌, ℕ, suc, zero, Bool, true, false, ◌&&◌, ◌||◌, List, [], ◌∷◌, length, map, Option, None, Some, get_or, slice_get, refl, sym, ap, ◌∙◌, subst, arith, length-append}
 use Rattle.std.specs.Prelude.{All, nat_eq, nat_lt}
 use Rattle.std.specs.List.{list_any, list_all}
 use Rattle.std.proofs.lemmas.Bool.Decides.{nat_tests}
@@ -61,6 +61,10 @@ kept_width (Project columns) kinds e = absurd (cc e)
 kept_width (Sort keys) kinds e = refl
 kept_width (Group keys items) kinds e = absurd (cc e)
 
+under : (a b c : Bool) → (a ≡ true → b ≡ c) → (a && b) ≡ (a && c)
+under true b c e = e refl
+under false b c e = refl
+
 module _ (decls : List Declaration) (declared : All IsDeclaration decls) where
   unique_table-part : (w table : ℕ) (columns : List ℕ) → table_width decls table ≤ w → unique_table decls table (left_part w columns) ≡ unique_table decls table columns
   unique_table-part w table columns h = table_part w columns (slice_get decls table) h (λ d e. declared_at decls declared table d e)
@@ -68,11 +72,9 @@ module _ (decls : List Declaration) (declared : All IsDeclaration decls) where
   pub unique_on-part : (tree : Tree) (w : ℕ) (columns : List ℕ) → width decls tree ≤ w → unique_on decls tree (left_part w columns) ≡ unique_on decls tree columns
   unique_on-part (Scan table label) w columns h =
       unique_table-part w table columns (let e : width decls (Scan table label) ≡ table_width decls table = length-map (columns_of decls table) (λ column. column.kind) in omega (arith, e, h))
-  unique_on-part (Over op child) w columns h = of (keeps_columns op) refl
-    where
-      of : (b : _) → keeps_columns op ≡ b → (b && unique_on decls child (left_part w columns)) ≡ (b && unique_on decls child columns)
-      of true e = unique_on-part child w columns (let k = ap length (kept_width op (kinds_of decls child) e) in omega (arith, k, h))
-      of false e = refl
+  unique_on-part (Over op child) w columns h =
+      under (keeps_columns op) (unique_on decls child (left_part w columns)) (unique_on decls child columns)
+      (λ e. unique_on-part child w columns (let k = ap length (kept_width op (kinds_of decls child) e) in omega (arith, k, h)))
   unique_on-part (Join method on left right) w columns h =
       let more = length-append (kinds_of decls left) (kinds_of decls right) in
       ap (λ s. unique_on decls right (right_columns on.pairs) && unique_on decls left s) (part_of_part (width decls left) w (omega (arith, more, h)) columns)

@@ -79,8 +79,8 @@ pub fn build(
     ensures { (result ≡ built query.now sizes.now choice) ⊎ IsErrOf result bad.Memory }
 {
     let tree = tree_for(alloc, query, sizes, choice)?;
-    if let Some(bound) = too_wide(sizes, &tree) {
-        return Err(BuildBad::TooWide(bound));
+    match too_wide(sizes, &tree) {
+        Some(bound) => Err(BuildBad::TooWide(bound)),
+        None => Ok(plan_of(alloc, query, tree)?),
     }
-    Ok(plan_of(alloc, query, tree)?)
 }

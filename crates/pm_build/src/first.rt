@@ -148,6 +148,12 @@ fn is_sum(item: Aggregate) -> bool
     }
 }
 
+fn any_sum(items: &[Aggregate]) -> bool
+    ensures { result ≡ list_any is_sum items.now }
+{
+    items.iter().any(|item| is_sum(*item))
+}
+
 fn has_sum(op: &Unary) -> bool
     ensures { result ≡ has_sum (unary_of op.now) }
 {
@@ -155,7 +161,7 @@ fn has_sum(op: &Unary) -> bool
         Unary::Filter(_) => false,
         Unary::Project(_) => false,
         Unary::Sort(_) => false,
-        Unary::Group { items, .. } => items.as_slice().iter().any(|item| is_sum(*item)),
+        Unary::Group { items, .. } => any_sum(items.as_slice()),
     }
 }
 

@@ -51,12 +51,18 @@ fn is_same(from: u32, pair: Pair, other: Pair) -> bool
     pair.left.saturating_sub(from) == other.left && pair.right == other.right
 }
 
+fn number_at(numbers: &[u32], at: usize) -> Option<u32>
+    ensures { result ≡ slice_get numbers.now at }
+{
+    numbers.get(at).copied()
+}
+
 /// The columns at this position of two lists, None past the end of one.
 pub fn pair_of_lists(lefts: &[u32], rights: &[u32], at: usize) -> Option<Pair>
     ensures { result ≡ slice_get (paired lefts.now rights.now) at }
 {
-    let left = lefts.get(at).copied()?;
-    let right = rights.get(at).copied()?;
+    let left = number_at(lefts, at)?;
+    let right = number_at(rights, at)?;
     Some(Pair { left, right })
 }
 

@@ -69,7 +69,6 @@ pub fn keeps_columns(op: &Unary) -> bool
 }
 
 /// Whether no two rows of the tree agree in the columns of this side of the pairs and hold no NULL there.
-#[tactic(auto, using(crate::proofs::Unique::unique_on_left))]
 pub fn is_unique(tables: &[QueryTable], tree: &Tree, pairs: &[Pair], side: Side) -> bool
     requires { All IsDeclaration (table_decls tables.now) }
     ensures { result ≡ unique_on (table_decls tables.now) (tree_of tree.now) (side_columns side pairs.now) }
