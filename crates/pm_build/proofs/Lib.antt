@@ -7,3 +7,4 @@ pub mod Capped
 pub mod Shapes
 pub mod Found
 pub mod Joined
+pub mod Bound

@@ -1,5 +1,5 @@
 -- queries for worked examples
-use Rattle.std.specs.Prelude.{ℕ, zero, suc, ◌+◌, true, false, List, [], ◌∷◌, map, replicate, Option, None, Some, codes}
+use Rattle.std.specs.Prelude.{ℕ, true, false, List, [], ◌∷◌, Option, None, Some, codes}
 use Rattle.pm_values.specs.declared.condition.Comparison.TheVariants as comparison
 use Rattle.pm_values.specs.declared.condition.Cond.TheVariants as cond
 use Rattle.pm_values.specs.Table.{Declaration}
@@ -61,15 +61,6 @@ sum_of_three =
     (table_at 0 (keyless (codes "a")) ∷ table_at 1 (keyless (codes "b")) ∷ table_at 2 (keyless (codes "e")) ∷ [])
     (source 0 (codes "a") ∷ source 1 (codes "b") ∷ source 2 (codes "e") ∷ [])
     (conjunct (Some 1) (equal 0 1) ∷ conjunct (Some 2) (equal 0 2) ∷ [])) { grouped = true; aggregates = aggregate.Sum 0 ∷ [] }
-
--- an equality of each source with the one before it, so many after this position
-abbrev pub each_with_next : ℕ → ℕ → List Conjunct
-each_with_next position zero = []
-each_with_next position (suc more) = conjunct (Some (position + 1)) (equal position (position + 1)) ∷ each_with_next (position + 1) more
-
--- one table without KEY, and it so many times again, each joined to the one before
-abbrev pub chained : ℕ → Query
-chained more = first_of (table_at 0 (keyless (codes "a")) ∷ []) (replicate (suc more) (source 0 (codes "a"))) (each_with_next 0 more)
 
 -- SELECT COUNT(*) FROM ord HAVING COUNT(*) > 5
 abbrev pub counted_above : Tree

@@ -1,12 +1,11 @@
 //! Worked examples of what is built, each the contract of a function that does nothing: they are proved by computing.
 ghost use Rattle.std.specs.Prelude.{◌≡◌, [], ◌∷◌, None, Some};
-ghost use Rattle.pm_plan.specs.Tree.{size};
 ghost use Rattle.pm_work.specs.First.{too_wide};
 ghost use Rattle.pm_query.specs.declared.query.Choice.TheVariants as choice;
 ghost use Rattle.pm_query.specs.Bound.{IsBound};
 ghost use Rattle.pm_query.specs.Build.{tree_for};
 ghost use Rattle.pm_query.specs.Worked.{many_orders};
-ghost use Rattle.pm_build.specs.Worked.{two_keyless, two_keyless_two_keyed, sum_of_three, chained, counted_above, orders_by_either, either_above};
+ghost use Rattle.pm_build.specs.Worked.{two_keyless, two_keyless_two_keyed, sum_of_three, counted_above, orders_by_either, either_above};
 
 /// The widest plans that are built, and the next ones: by the first bound of the whole work, and by that of the rows below
 /// a SUM.
@@ -15,14 +14,6 @@ pub fn widths_worked()
     ensures more_work { too_wide (50000000000000000 ∷ 49999999999999999 ∷ 100000000000000000 ∷ 2 ∷ []) (tree_for two_keyless_two_keyed (50000000000000000 ∷ 49999999999999999 ∷ 100000000000000000 ∷ 2 ∷ []) choice.Hash) ≡ Some 10000000000000000000000000000000001 }
     ensures most_summed { too_wide (1000000 ∷ 1000000 ∷ 1000000 ∷ []) (tree_for sum_of_three (1000000 ∷ 1000000 ∷ 1000000 ∷ []) choice.Hash) ≡ None }
     ensures more_summed { too_wide (1000000 ∷ 1000000 ∷ 1000001 ∷ []) (tree_for sum_of_three (1000000 ∷ 1000000 ∷ 1000001 ∷ []) choice.Hash) ≡ Some 1000001000000000000 }
-    ensures five { too_wide (1000000 ∷ []) (tree_for (chained 4) (1000000 ∷ []) choice.Hash) ≡ None }
-    ensures six { too_wide (1000000 ∷ []) (tree_for (chained 5) (1000000 ∷ []) choice.Hash) ≡ Some 2000001000001000001000001000006000000 }
-{}
-
-/// Eight sources have seven joins, and under an index join a node more for each.
-pub fn eight_sources_worked()
-    ensures hash { size (tree_for (chained 7) (3 ∷ []) choice.Hash) ≡ 16 }
-    ensures index { size (tree_for (chained 7) (3 ∷ []) choice.Index) ≡ 16 }
 {}
 
 /// HAVING without GROUP BY stands above a group without keys; a condition of a later ON stands with the source that it
