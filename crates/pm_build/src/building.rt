@@ -68,12 +68,7 @@ fn plan_of(alloc: Global, query: &Query, tree: Tree) -> Result<Plan, AllocError>
 /// A bound query has exactly one plan for each choice. `TooWide` comes exactly where its first bound is above 10^34, with
 /// that bound, or where it is not, and that of the rows below a SUM is above 10^18, with that one. `Memory` is want of
 /// memory.
-pub fn build(
-    alloc: Global,
-    query: &Query,
-    sizes: &[u64],
-    choice: Choice,
-) -> Result<Plan, BuildBad>
+pub fn build(alloc: Global, query: &Query, sizes: &[u64], choice: Choice) -> Result<Plan, BuildBad>
     requires bound { IsBound query.now }
     requires narrow { length query.now.outputs < 2 ^ 32 }
     ensures { (result ≡ built query.now sizes.now choice) ⊎ IsErrOf result bad.Memory }

@@ -123,10 +123,7 @@ fn first_sum(sizes: &[u64], tree: &Tree) -> u128
         Tree::Scan { .. } => hi,
         Tree::Over { child, .. } => add_capped(hi, first_sum(sizes, child.get())),
         Tree::Join { left, right, .. } => {
-            let below = add_capped(
-                first_sum(sizes, left.get()),
-                first_sum(sizes, right.get()),
-            );
+            let below = add_capped(first_sum(sizes, left.get()), first_sum(sizes, right.get()));
             add_capped(hi, below)
         }
         Tree::Index { left, seek, .. } => {

@@ -30,11 +30,7 @@ pub fn width(tables: &[QueryTable], tree: &Tree) -> u32
     }
 }
 
-fn push_table_kinds(
-    kinds: &mut Kinds,
-    tables: &[QueryTable],
-    table: u32,
-) -> Result<(), AllocError>
+fn push_table_kinds(kinds: &mut Kinds, tables: &[QueryTable], table: u32) -> Result<(), AllocError>
     ensures { OnOk result (kinds.new ≡ kinds.old ++ table_kinds (table_decls tables.now) table) }
 {
     for column in columns_of(tables, table) {
@@ -71,11 +67,7 @@ fn kinds_of_columns(alloc: Global, kinds: &[Kind], columns: &[u32]) -> Result<Ki
     Ok(chosen)
 }
 
-fn kinds_of_items(
-    alloc: Global,
-    kinds: &[Kind],
-    items: &[Aggregate],
-) -> Result<Kinds, AllocError>
+fn kinds_of_items(alloc: Global, kinds: &[Kind], items: &[Aggregate]) -> Result<Kinds, AllocError>
     ensures { IfOk result (λ chosen. chosen ≡ map (kind_of_item kinds.now) items.now) }
 {
     let mut chosen = Kinds::new(alloc);

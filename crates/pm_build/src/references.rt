@@ -70,11 +70,7 @@ pub fn pair_of_lists(lefts: &[u32], rights: &[u32], at: usize) -> Option<Pair>
 fn referring(reference: &Reference, at: usize) -> Option<Pair>
     ensures { result ≡ slice_get (paired reference.now.columns reference.now.keys) at }
 {
-    pair_of_lists(
-        reference.columns.as_slice(),
-        reference.keys.as_slice(),
-        at,
-    )
+    pair_of_lists(reference.columns.as_slice(), reference.keys.as_slice(), at)
 }
 
 // Whether the pair is one of the reference's.
@@ -157,9 +153,7 @@ fn refers_by_any(
 ) -> bool
     ensures { result ≡ list_any (refers_by (table_decls tables.now) target (map (shifted from) pairs.now)) references.now }
 {
-    references
-        .iter()
-        .any(|reference| refers_by(tables, from, target, pairs, reference))
+    references.iter().any(|reference| refers_by(tables, from, target, pairs, reference))
 }
 
 // Whether the pairs with the target are those of a reference of this table, whose columns begin at `from`.
@@ -170,13 +164,7 @@ fn refers_to(tables: &[QueryTable], table: u32, from: u32, target: u32, pairs: &
         return false;
     };
     all_required(decl.columns().as_slice(), from, pairs)
-        && refers_by_any(
-            tables,
-            from,
-            target,
-            pairs,
-            decl.references().as_slice(),
-        )
+        && refers_by_any(tables, from, target, pairs, decl.references().as_slice())
 }
 
 /// Whether the pairs with the target are those of a reference of an entry of the tree, whose columns begin at `from`, that no

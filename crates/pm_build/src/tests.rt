@@ -90,7 +90,11 @@ fn two_keyless(alloc: Global) -> Result<Query, AllocError>
 }
 
 // The lines of the plan that is built, or the bound for which it is too wide, None for want of memory.
-fn built(alloc: Global, sizes: &[u64], choice: Choice) -> Result<Result<Txt, BuildBad>, AllocError> {
+fn built(
+    alloc: Global,
+    sizes: &[u64],
+    choice: Choice,
+) -> Result<Result<Txt, BuildBad>, AllocError> {
     let query = two_keyless(alloc)?;
     match build(alloc, &query, sizes, choice) {
         Ok(plan) => Ok(Ok(plan_text(alloc, &plan)?)),

@@ -77,12 +77,13 @@ pub fn is_unique(tables: &[QueryTable], tree: &Tree, pairs: &[Pair], side: Side)
         Tree::Scan { table, .. } => is_key_among(tables, *table, pairs, side),
         Tree::Over { op, child } => keeps_columns(op)
             && is_unique(tables, child.get(), pairs, side),
-        Tree::Join { on, left, right, .. } => is_unique(
-            tables,
-            right.get(),
-            on.pairs.as_slice(),
-            Side::Right,
-        ) && is_unique(tables, left.get(), pairs, side),
+        Tree::Join {
+            on,
+            left,
+            right,
+            ..
+        } => is_unique(tables, right.get(), on.pairs.as_slice(), Side::Right)
+            && is_unique(tables, left.get(), pairs, side),
         Tree::Index { left, seek, .. } => is_key_among(
             tables,
             seek.table,
