@@ -1,20 +1,18 @@
 -- What is selected of groups, sorted, is what is selected of the rows that stand for them.
-use Rattle.std.proofs.Common.{◌≡◌, ◌<◌, ◌+◌, ◌==◌, ℕ, suc, Bool, true, false, not, cond, if◌then◌else◌, List, [], ◌∷◌, ◌++◌, length, map, filter, get_or, drop, refl, ap, sym, ◌∙◌, subst, arith, nat_eq, append_assoc, length-append}
-use Rattle.std.specs.List.{list_any, position_or_len, AllByRecursion}
+use Rattle.std.proofs.Common.{◌≡◌, ◌<◌, ◌+◌, ℕ, Bool, true, false, not, cond, if◌then◌else◌, List, [], ◌∷◌, ◌++◌, length, map, get_or, drop, refl, ap, sym, ◌∙◌, subst, arith, nat_eq, append_assoc, length-append}
+use Rattle.std.specs.List.{position_or_len, AllByRecursion}
 use Rattle.std.specs.Ordering.{ordering_then}
 use Rattle.std.proofs.lemmas.Bool.{eqb-true, eq-eqb}
 use Rattle.std.proofs.lemmas.Bool.Decides.{nat_tests}
 use Rattle.std.proofs.lemmas.List.{length-map}
 use Rattle.std.proofs.Math.Seq.{drop-append_seam, get_or-append_seam}
-use Rattle.pm_values.specs.declared.value.Value.{Value}
 use Rattle.pm_values.specs.declared.value.Value.TheVariants as value
 use Rattle.pm_values.specs.Row.{Row, cell, pick}
 use Rattle.pm_values.specs.Order.{value_cmp, is_less}
 use Rattle.pm_values.specs.Equality.{same_values}
 use Rattle.pm_values.specs.Keys.{once}
 use Rattle.pm_plan.specs.declared.plan.Aggregate.{Aggregate}
-use Rattle.pm_plan.specs.declared.plan.SortKey.{SortKey}
-use Rattle.pm_plan.specs.Sorting.{key_cmp, keys_cmp, is_before, sorted}
+use Rattle.pm_plan.specs.Sorting.{keys_cmp, is_before, sorted}
 use Rattle.pm_query.specs.Answer.{position_of}
 use Rattle.pm_query.specs.Bound.{same_aggregate}
 use Rattle.pm_names.specs.declared.terms.KnownColumn.{KnownColumn}
@@ -45,9 +43,9 @@ same_place known true keys calls (term.Column a) (term.Column b) h k =
     bool_iff (nat_eq a b) (nat_eq (position_or_len (nat_eq a) keys) (position_or_len (nat_eq b) keys))
     (λ e. eq-eqb (position_or_len (nat_eq a) keys) (position_or_len (nat_eq b) keys) (ap (λ c. position_or_len (nat_eq c) keys) (eqb-true a b e)))
     (λ e.
-      let one : a ≡ get_or keys (position_or_len (nat_eq a) keys) 0 = eqb-true a (get_or keys (position_or_len (nat_eq a) keys) 0) (any_at (nat_eq a) keys 0 h) in
-      let two : b ≡ get_or keys (position_or_len (nat_eq b) keys) 0 = eqb-true b (get_or keys (position_or_len (nat_eq b) keys) 0) (any_at (nat_eq b) keys 0 k) in
-      eq-eqb a b (one ∙ ap (λ n. get_or keys n 0) (eqb-true (position_or_len (nat_eq a) keys) (position_or_len (nat_eq b) keys) e) ∙ sym two))
+    let one : a ≡ get_or keys (position_or_len (nat_eq a) keys) 0 = eqb-true a (get_or keys (position_or_len (nat_eq a) keys) 0) (any_at (nat_eq a) keys 0 h) in
+    let two : b ≡ get_or keys (position_or_len (nat_eq b) keys) 0 = eqb-true b (get_or keys (position_or_len (nat_eq b) keys) 0) (any_at (nat_eq b) keys 0 k) in
+    eq-eqb a b (one ∙ ap (λ n. get_or keys n 0) (eqb-true (position_or_len (nat_eq a) keys) (position_or_len (nat_eq b) keys) e) ∙ sym two))
 same_place known true keys calls (term.Column a) (term.Call b) h k =
     let low : position_or_len (nat_eq a) keys < length keys = position_below (nat_eq a) keys h in
     let off : nat_eq (position_or_len (nat_eq a) keys) (length keys + position_or_len (same_aggregate b) calls) ≡ false = grind (arith, nat_tests) in
@@ -62,12 +60,12 @@ same_place known true keys calls (term.Call a) (term.Call b) h k =
     bool_iff (same_aggregate a b) (nat_eq (length keys + p) (length keys + q))
     (λ e. eq-eqb (length keys + p) (length keys + q) (ap (λ c. length keys + position_or_len (same_aggregate c) calls) (equal_aggregates a b e)))
     (λ e.
-      let whole : length keys + p ≡ length keys + q = eqb-true (length keys + p) (length keys + q) e in
-      let same : p ≡ q = omega arith in
-      let one : a ≡ get_or calls p a = equal_aggregates a (get_or calls p a) (any_at (same_aggregate a) calls a h) in
-      let two : b ≡ get_or calls q a = equal_aggregates b (get_or calls q a) (any_at (same_aggregate b) calls a k) in
-      let alike : a ≡ b = one ∙ ap (λ n. get_or calls n a) same ∙ sym two in
-      ap (same_aggregate a) (sym alike) ∙ same_self a)
+    let whole : length keys + p ≡ length keys + q = eqb-true (length keys + p) (length keys + q) e in
+    let same : p ≡ q = omega arith in
+    let one : a ≡ get_or calls p a = equal_aggregates a (get_or calls p a) (any_at (same_aggregate a) calls a h) in
+    let two : b ≡ get_or calls q a = equal_aggregates b (get_or calls q a) (any_at (same_aggregate b) calls a k) in
+    let alike : a ≡ b = one ∙ ap (λ n. get_or calls n a) same ∙ sym two in
+    ap (same_aggregate a) (sym alike) ∙ same_self a)
 
 module _ (known : List KnownColumn) (g : Bool) (keys : List ℕ) (calls : List Aggregate) where
   -- what each of these expressions is stands in the row
@@ -179,6 +177,6 @@ module _ (known : List KnownColumn) (g : Bool) (keys : List ℕ) (calls : List A
 
     pub arranged_same : arranged terms (map (λ s. s.group) all)
         ≡ (if terms.distinct
-          then sorted (map (λ key. record { column = position_of key.column outputs; descending = key.descending }) (orders_of (shape_with g keys calls) terms.orders)) (once same_values (map (pick outputs) (map (λ s. s.row) all)))
-          else map (pick outputs) (sorted (orders_of (shape_with g keys calls) terms.orders) (map (λ s. s.row) all)))
+        then sorted (map (λ key. record { column = position_of key.column outputs; descending = key.descending }) (orders_of (shape_with g keys calls) terms.orders)) (once same_values (map (pick outputs) (map (λ s. s.row) all)))
+        else map (pick outputs) (sorted (orders_of (shape_with g keys calls) terms.orders) (map (λ s. s.row) all)))
     arranged_same = λ i. if terms.distinct then different_same i else all_same i

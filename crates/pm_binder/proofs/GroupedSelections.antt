@@ -1,10 +1,9 @@
 -- What is selected from: each group of rows, and the row that stands for it, in which each expression has its value.
-use Rattle.std.proofs.Common.{◌≡◌, ◌<◌, ◌+◌, ℕ, zero, suc, Bool, true, false, not, ◌||◌, cond, List, [], ◌∷◌, ◌++◌, length, map, filter, get_or, refl, ap, sym, ◌∙◌, subst, arith, nat_eq, zero-add}
+use Rattle.std.proofs.Common.{◌≡◌, ◌<◌, ◌+◌, ℕ, suc, Bool, true, false, not, ◌||◌, cond, List, [], ◌∷◌, ◌++◌, length, map, filter, get_or, refl, ap, sym, ◌∙◌, arith, nat_eq}
 use Rattle.std.specs.List.{list_any, position_or_len, AllByRecursion}
 use Rattle.std.proofs.lemmas.Bool.{eqb-true}
 use Rattle.std.proofs.lemmas.List.{length-map, get_or_append_left, get_or-append-add}
 use Rattle.pm_syntax.specs.declared.tree.ColumnName.{ColumnName}
-use Rattle.pm_values.specs.declared.value.Value.{Value}
 use Rattle.pm_values.specs.declared.value.Value.TheVariants as value
 use Rattle.pm_values.specs.Row.{Row, cell, pick}
 use Rattle.pm_values.specs.Equality.{same_values}
@@ -14,7 +13,6 @@ use Rattle.pm_plan.specs.declared.plan.Aggregate.{Aggregate}
 use Rattle.pm_plan.specs.Grouping.{aggregate_of, grouped}
 use Rattle.pm_query.specs.Bound.{same_aggregate}
 use Rattle.pm_names.specs.declared.terms.KnownColumn.{KnownColumn}
-use Rattle.pm_names.specs.declared.terms.RowShape.{RowShape}
 use Rattle.pm_names.specs.declared.terms.Term.{Term}
 use Rattle.pm_names.specs.declared.terms.Term.TheVariants as term
 use Rattle.pm_names.specs.Names.{column_of}
@@ -23,7 +21,6 @@ use Rattle.pm_names.proofs.Once.{equal_aggregates}
 use Rattle.pm_binder.specs.Grouping.{key_columns}
 use Rattle.pm_binder.specs.Meaning.{first_row, term_value, key_values, groups_of}
 use Rattle.pm_binder.proofs.BoundTables.{position_below}
-use Rattle.pm_binder.proofs.GroupedRows.{is_there}
 use Rattle.pm_binder.proofs.Images.{same_function, bool_iff, map_map, map_same, once_map, once_all, all_once, all_like}
 use Rattle.pm_binder.proofs.SelectedRows.{shape_with, Stands}
 
@@ -99,7 +96,6 @@ call_cell (k ∷ calls) group a h = of (call_cell calls group a) (same_aggregate
         ap (λ n. get_or (aggregate_of group k ∷ map (aggregate_of group) calls) n value.Null) next ∙ rest h
 
 module _ (known : List KnownColumn) (keys : List ℕ) (calls : List Aggregate) where
-
   -- a group whose first row has the keys of the row
   row_agrees : (group : List Row) (r : Row) → pick keys (first_row group) ≡ pick keys r → (t : Term) → Stands known keys calls true t
       → term_value group t ≡ cell (pick keys r ++ map (aggregate_of group) calls) (position_in (shape_with true keys calls) t)

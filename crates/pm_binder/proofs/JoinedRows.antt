@@ -18,7 +18,6 @@ use Rattle.pm_values.specs.declared.condition.Truth.TheVariants.{Yes, No, Unknow
 use Rattle.pm_values.specs.declared.condition.Cond.{Cond}
 use Rattle.pm_values.specs.declared.condition.Cond.TheVariants as node
 use Rattle.pm_values.specs.Condition.{both, all_of, is_yes, truth_layer, truth, keeps}
-use Rattle.pm_values.specs.Keys.{once}
 use Rattle.pm_values.specs.Row.{Row, cell}
 use Rattle.pm_values.specs.Table.{Declaration}
 use Rattle.pm_values.proofs.Folds.{fold_all as cond_all}
@@ -141,10 +140,10 @@ module _ (schema : List Declaration) (sources : List Source) where
         ap (filter (stands_in (Some i))) is ∙ apart ∙ (λ k. none_front k ++ ((kept k ++ none_rest k) ++ none_back k)) ∙ append-nil (own ++ []) ∙ append-nil own,
         conditions_from all (front ++ own) back (i + 1) xs
             (λ p high.
-              let off : nat_eq p i ≡ false = grind (arith, nat_tests) in
-              let gone = before p (omega arith) in
-              let other = other_on p i off x in
-              filter-append (stands_in (Some p)) front own ∙ (λ k. gone k ++ other k))
+            let off : nat_eq p i ≡ false = grind (arith, nat_tests) in
+            let gone = before p (omega arith) in
+            let other = other_on p i off x in
+            filter-append (stands_in (Some p)) front own ∙ (λ k. gone k ++ other k))
             after (is ∙ regrouped),
       )
 

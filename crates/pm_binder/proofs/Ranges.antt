@@ -1,5 +1,5 @@
 -- Positions from 0 on, one more at the end.
-use Rattle.std.proofs.Common.{◌≡◌, ◌+◌, ℕ, zero, suc, List, [], ◌∷◌, ◌++◌, map, refl, ap, ◌∙◌, arith, add-zero, add-one, zero-add}
+use Rattle.std.proofs.Common.{◌≡◌, ◌+◌, ℕ, zero, suc, [], ◌∷◌, ◌++◌, map, refl, ap, ◌∙◌, arith, add-zero, add-one, zero-add}
 use Rattle.std.specs.List.{range_with_len}
 use Rattle.std.proofs.lemmas.List.{map-append}
 use Rattle.pm_names.specs.declared.terms.PlacedTerm.{PlacedTerm}

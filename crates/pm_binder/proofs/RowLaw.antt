@@ -1,7 +1,6 @@
 -- The rows that a statement asks for are those that its query asks for.
-use Rattle.std.proofs.Common.{◌≡◌, ℕ, Bool, true, false, if◌then◌else◌, List, [], ◌∷◌, map, filter, Option, None, Some, Ok, refl, ap, sym, ◌∙◌, subst}
+use Rattle.std.proofs.Common.{◌≡◌, ℕ, Bool, true, false, if◌then◌else◌, List, map, filter, Option, None, Some, Ok, refl, ap, sym, ◌∙◌}
 use Rattle.std.specs.List.{AllByRecursion}
-use Rattle.pm_syntax.specs.declared.tree.Expr.{Expr}
 use Rattle.pm_syntax.specs.declared.tree.Test.{Test}
 use Rattle.pm_syntax.specs.declared.tree.Select.{Select}
 use Rattle.pm_values.specs.Condition.{is_yes}
@@ -15,7 +14,7 @@ use Rattle.pm_plan.specs.Outputs.{keeps_if}
 use Rattle.pm_plan.specs.Rows.{Db, decls_of}
 use Rattle.pm_plan.specs.Sorting.{sorted}
 use Rattle.pm_query.specs.declared.query.Query.{Query}
-use Rattle.pm_query.specs.Answer.{combined, rows_of, selected_orders, answer}
+use Rattle.pm_query.specs.Answer.{combined, selected_orders, answer}
 use Rattle.pm_query.specs.Build.{decls_in}
 use Rattle.pm_names.specs.declared.terms.KnownColumn.{KnownColumn}
 use Rattle.pm_names.specs.Sources.{known_columns}
@@ -24,8 +23,8 @@ use Rattle.pm_names.specs.Conditions.{exprs_of}
 use Rattle.pm_binder.specs.declared.terms.Terms.{Terms}
 use Rattle.pm_binder.specs.Grouping.{key_columns, terms_of, calls_of}
 use Rattle.pm_binder.specs.Bound.{having_of, query, bound}
-use Rattle.pm_binder.specs.Laws.{formed_if, IsFormed}
-use Rattle.pm_binder.specs.Meaning.{meets_if, groups_of, selected_from, joined_rows, arranged, select_rows}
+use Rattle.pm_binder.specs.Laws.{formed_if, IsFormed, AsksForRowsOf}
+use Rattle.pm_binder.specs.Meaning.{meets_if, selected_from, arranged, select_rows}
 use Rattle.pm_binder.proofs.ArrangedRows.{arranged_same}
 use Rattle.pm_binder.proofs.BoundQueries.{IsKept, kept, text_kept, items_stand, orders_stand, having_there}
 use Rattle.pm_binder.proofs.GroupedRows.{is_there}
@@ -84,8 +83,7 @@ query_rows select schema db formed keeps declared =
     ∙ arranged_same known terms.grouped terms.keys calls terms items orders selected.all
     ∙ ap (λ rows. if terms.distinct then sorted (selected_orders found) (once same_values (map (pick found.outputs) rows)) else map (pick found.outputs) (sorted found.orders rows)) selected.rows_are
 
-pub rows_are_answers : (select : Select) (schema : List Declaration) (found : Query) (db : Db) → IsFormed select → bound select schema ≡ Ok found → decls_of db ≡ decls_in found
-    → select_rows select schema db ≡ answer found db
-rows_are_answers select schema found db formed is declared =
+pub rows_are_answers : (select : Select) (schema : List Declaration) (found : Query) → IsFormed select → bound select schema ≡ Ok found → AsksForRowsOf select schema found
+rows_are_answers select schema found formed is db declared =
     let k = kept select schema found is in
     query_rows select schema db formed (record { from = k.from; text = k.text; grouping = k.grouping; joins = k.joins; is = refl }) (declared ∙ ap decls_in k.is) ∙ ap (λ q. answer q db) (sym k.is)

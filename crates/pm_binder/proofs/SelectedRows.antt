@@ -1,7 +1,7 @@
 -- What a bound query selects, orders by and tests in HAVING stands in the row that it selects from.
 use Rattle.std.proofs.Common.{◌≡◌, ◌≢◌, ◌<◌, ◌==◌, ℕ, Bool, true, false, not, ◌&&◌, ◌||◌, List, [], ◌∷◌, ◌++◌, length, map, refl, ap, sym, ◌∙◌, subst, arith, nat_eq, nat_lt}
 use Rattle.std.specs.List.{flat_map, list_any, list_all, range_with_len, AllByRecursion}
-use Rattle.std.proofs.lemmas.Bool.{eqb-true, eq-eqb}
+use Rattle.std.proofs.lemmas.Bool.{eqb-true, eq-eqb, or_parts}
 use Rattle.std.proofs.lemmas.Bool.Decides.{nat_tests}
 use Rattle.std.proofs.lemmas.List.{length-map}
 use Rattle.std.proofs.lemmas.List.FromFn.{length-range_with_len}
@@ -84,37 +84,22 @@ module _ (known : List KnownColumn) (keys : List ℕ) (calls : List Aggregate) w
       both_true (nat_lt (position_in (shape_with g keys calls) o.term) (length (row_of known g keys calls))) (are_below (length (row_of known g keys calls)) (map (λ key. key.column) (orders_of (shape_with g keys calls) os))) (stands_below g o.term h.0) (orders_below g os h.1)
 
   -- without grouping nothing is an aggregate
+  plain_stands : (t : Term) → term_fits known t ≡ true → is_call t ≡ false → Stands false t
+  plain_stands (term.Column column) h k = h
+  plain_stands (term.Call call) h k = absurd (cc k)
+
+  plain_terms : {A : Type 0} (f : A → Term) (xs : List A) → list_all (λ x. term_fits known (f x)) xs ≡ true → list_any (λ x. is_call (f x)) xs ≡ false → AllByRecursion (λ x. Stands false (f x)) xs
+  plain_terms f [] h k = tt
+  plain_terms f (x ∷ xs) h k =
+      let calls = or_parts (is_call (f x)) (list_any (λ y. is_call (f y)) xs) k in
+      let more = list_all (λ y. term_fits known (f y)) xs in
+      (plain_stands (f x) (and_left (term_fits known (f x)) more h) calls.0, plain_terms f xs (and_right (term_fits known (f x)) more h) calls.1)
+
   pub plain_items : (ps : List PlacedTerm) → list_all (placed_fits known) ps ≡ true → list_any (λ placed. is_call placed.term) ps ≡ false → AllByRecursion (λ placed. Stands false placed.term) ps
-  plain_items [] h k = tt
-  plain_items (p ∷ ps) h k = (of p.term (and_left (placed_fits known p) (list_all (placed_fits known) ps) h) (neither_left (is_call p.term) (list_any (λ placed. is_call placed.term) ps) k), plain_items ps (and_right (placed_fits known p) (list_all (placed_fits known) ps) h) (neither_right (is_call p.term) (list_any (λ placed. is_call placed.term) ps) k))
-    where
-      neither_left : (a b : Bool) → (a || b) ≡ false → a ≡ false
-      neither_left true b h = cc h
-      neither_left false b h = refl
-
-      neither_right : (a b : Bool) → (a || b) ≡ false → b ≡ false
-      neither_right true b h = cc h
-      neither_right false b h = h
-
-      of : (t : Term) → term_fits known t ≡ true → is_call t ≡ false → Stands false t
-      of (term.Column column) h k = h
-      of (term.Call call) h k = absurd (cc k)
+  plain_items ps h k = plain_terms (λ placed. placed.term) ps h k
 
   pub plain_orders : (os : List OrderTerm) → list_all (order_fits known) os ≡ true → list_any (λ order. is_call order.term) os ≡ false → AllByRecursion (λ order. Stands false order.term) os
-  plain_orders [] h k = tt
-  plain_orders (o ∷ os) h k = (of o.term (and_left (order_fits known o) (list_all (order_fits known) os) h) (neither_left (is_call o.term) (list_any (λ order. is_call order.term) os) k), plain_orders os (and_right (order_fits known o) (list_all (order_fits known) os) h) (neither_right (is_call o.term) (list_any (λ order. is_call order.term) os) k))
-    where
-      neither_left : (a b : Bool) → (a || b) ≡ false → a ≡ false
-      neither_left true b h = cc h
-      neither_left false b h = refl
-
-      neither_right : (a b : Bool) → (a || b) ≡ false → b ≡ false
-      neither_right true b h = cc h
-      neither_right false b h = h
-
-      of : (t : Term) → term_fits known t ≡ true → is_call t ≡ false → Stands false t
-      of (term.Column column) h k = h
-      of (term.Call call) h k = absurd (cc k)
+  plain_orders os h k = plain_terms (λ order. order.term) os h k
 
 -- ---- heads
 

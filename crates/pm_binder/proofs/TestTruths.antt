@@ -27,7 +27,7 @@ use Rattle.pm_names.specs.declared.terms.RowShape.{RowShape}
 use Rattle.pm_names.specs.Names.{term_of}
 use Rattle.pm_names.specs.Conditions.{position_in, literal_operand, operand_of, negated_if, cond_layer, cond_of, atom_exprs, exprs_layer, exprs_of}
 use Rattle.pm_binder.specs.Laws.{is_column, atom_formed, formed_layer, test_formed}
-use Rattle.pm_binder.specs.Meaning.{term_value, literal_value, atom_value, atom_scale, negated_when, atoms_compared, test_layer, test_truth}
+use Rattle.pm_binder.specs.Meaning.{term_value, atom_value, atom_scale, negated_when, atoms_compared, test_layer, test_truth}
 use Rattle.pm_binder.proofs.Typed.{and_left, and_right, all_left, all_right}
 
 both_yes : (t : Truth) → both t Yes ≡ t

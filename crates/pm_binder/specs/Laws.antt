@@ -15,7 +15,12 @@ use Rattle.pm_syntax.specs.declared.tree.Test.TheOpen.{Test-F}
 use Rattle.pm_syntax.specs.declared.tree.Test.TheOpen as layer
 use Rattle.pm_syntax.specs.declared.tree.Select.{Select}
 use Rattle.pm_values.specs.Table.{Declaration}
+use Rattle.pm_plan.specs.Rows.{Db, decls_of}
+use Rattle.pm_query.specs.declared.query.Query.{Query}
+use Rattle.pm_query.specs.Answer.{answer}
 use Rattle.pm_query.specs.Bound.{names_once}
+use Rattle.pm_query.specs.Build.{decls_in}
+use Rattle.pm_binder.specs.Meaning.{select_rows}
 
 abbrev pub is_column : Expr → Bool
 is_column (expr.Column name) = true
@@ -73,3 +78,7 @@ has_columns decl = not (length decl.columns == 0)
 pub record AreTables (schema : List Declaration) : Type 0 where
   pub columns : list_all has_columns schema ≡ true
   pub named_once : list_all names_once schema ≡ true
+
+-- the query asks for the rows that the statement asks for, of each database of the query's tables
+abbrev pub AsksForRowsOf : Select → List Declaration → Query → Type 0
+AsksForRowsOf select schema found = (db : Db) → decls_of db ≡ decls_in found → select_rows select schema db ≡ answer found db

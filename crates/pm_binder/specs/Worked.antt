@@ -12,7 +12,7 @@ use Rattle.pm_values.specs.Row.{Row}
 use Rattle.pm_values.specs.Table.{Declaration}
 use Rattle.pm_plan.specs.Rows.{Db}
 use Rattle.pm_plan.specs.declared.plan.Aggregate.TheVariants as aggregate
-use Rattle.pm_plan.specs.Worked.{against, declared, customer_decl, order_decl}
+use Rattle.pm_plan.specs.Worked.{number, against, declared, customer_decl, order_decl}
 use Rattle.pm_query.specs.declared.query.Query.{Query}
 use Rattle.pm_query.specs.Worked.{table_at, conjunct, equal, of_table, orders_with_names, customers_left_joined}
 use Rattle.pm_names.specs.declared.fault.BindBad.{BindBad}
@@ -80,3 +80,8 @@ swapped = record (of_orders (1 ∷ 2 ∷ []) (codes "amt" ∷ codes "cust" ∷ [
 -- the text is a statement that asks for these rows of the database
 abbrev pub TextAsksFor : List ℕ → Db → List Row → Type 0
 TextAsksFor text db rows = (select : Select) × TextCallsFor text (Ok select) × (select_rows select shop_schema db ≡ rows)
+
+-- each customer with each amount, and one without an order with NULL
+abbrev pub customers_with_amounts : List Row
+customers_with_amounts =
+    (value.Text (codes "Ann") ∷ number 5 ∷ []) ∷ (value.Text (codes "Ann") ∷ number 7 ∷ []) ∷ (value.Text (codes "Bob") ∷ value.Null ∷ []) ∷ (value.Text (codes "Cy") ∷ number 9 ∷ []) ∷ []

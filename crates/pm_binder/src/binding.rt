@@ -5,6 +5,8 @@ ghost use Rattle.pm_names.specs.Breaches.{verdict, outcome};
 ghost use Rattle.pm_names.specs.Sources.{known_columns};
 ghost use Rattle.pm_binder.specs.Bound.{test_breaches_if, on_breaches, ons_breaches, groups_breaches, text_breaches, having_of, outputs_of, orders_of, query_of, query, further_breaches, bound};
 ghost use Rattle.pm_binder.specs.Grouping.{shape_of};
+ghost use Rattle.pm_binder.specs.Laws.{IsFormed, AreTables, AsksForRowsOf};
+ghost use Rattle.pm_query.specs.Bound.{IsBound};
 
 use crate::conjuncts::conjuncts;
 use crate::grouping::{check_grouping, shape_of};
@@ -197,9 +199,14 @@ fn bound_further(alloc: Global, schema: &[TableDecl], select: &Select) -> Result
 /// by keys and aggregates alone (`NotGrouped`), and one with DISTINCT orders by what it selects (`NotSelected`). Joins: each
 /// source after the first has an equality of one of its columns with an earlier one (`NoJoinKey`), and a left join has
 /// no other condition than these and those on its source alone (`LeftOn`). `Memory` is want of memory.
+///
+/// The query asks for the rows that the statement asks for, whatever stands in the tables.
 pub fn bind(alloc: Global, select: &Select, schema: &Schema) -> Result<Query, BindBad>
     requires { length schema.now < 2 ^ 32 }
-    ensures { (result ≡ bound select.now schema.now) ⊎ IsErrOf result bad.Memory }
+    ensures exact { (result ≡ bound select.now schema.now) ⊎ IsErrOf result bad.Memory }
+    // Statements and schemas that are read from texts are such (`readings_are_formed`, `declared_are_tables`).
+    ensures query { IfOk result (λ found. IsFormed select.now → AreTables schema.now → IsBound found) }
+    ensures rows { IfOk result (λ found. IsFormed select.now → AsksForRowsOf select.now schema.now found) }
 {
     let schema = schema.as_slice();
     check_sources(schema, select.sources.as_slice())?;

@@ -1,5 +1,5 @@
 //! The rules of grouping, and the row that is selected from.
-ghost use Rattle.std.specs.Prelude.{◌≡◌, ◌++◌, fold, nat_eq, length, [], IfOk, OnOk};
+ghost use Rattle.std.specs.Prelude.{◌≡◌, fold, nat_eq, IfOk, OnOk};
 ghost use Rattle.std.specs.List.{flat_map, list_any};
 ghost use Rattle.pm_query.specs.Bound.{same_aggregate};
 ghost use Rattle.pm_names.specs.Breaches.{verdict, added};

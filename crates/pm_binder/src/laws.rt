@@ -7,13 +7,9 @@ ghost use Rattle.pm_syntax.specs.Statement.{Reads};
 ghost use Rattle.pm_values.specs.Table.{Declaration};
 ghost use Rattle.pm_schema.specs.Meaning.{Declares};
 ghost use Rattle.pm_query.specs.declared.query.Query.{Query};
-ghost use Rattle.pm_plan.specs.Rows.{Db, decls_of};
-ghost use Rattle.pm_query.specs.Answer.{answer};
 ghost use Rattle.pm_query.specs.Bound.{IsBound};
-ghost use Rattle.pm_query.specs.Build.{decls_in};
 ghost use Rattle.pm_binder.specs.Bound.{bound};
-ghost use Rattle.pm_binder.specs.Laws.{IsFormed, AreTables};
-ghost use Rattle.pm_binder.specs.Meaning.{select_rows};
+ghost use Rattle.pm_binder.specs.Laws.{IsFormed, AreTables, AsksForRowsOf};
 
 /// A statement that a text is read as is formed.
 pub fn readings_are_formed()
@@ -30,8 +26,7 @@ pub fn queries_are_bound()
     ensures { (select : Select) (schema : List Declaration) (found : Query) → IsFormed select → AreTables schema → bound select schema ≡ Ok found → IsBound found }
 {}
 
-/// The rows that a formed statement asks for are those that the query asks for that it is bound to, on each database of the
-/// query's tables.
+/// The query that a formed statement is bound to asks for the rows that the statement asks for.
 pub fn rows_are_answers()
-    ensures { (select : Select) (schema : List Declaration) (found : Query) (db : Db) → IsFormed select → bound select schema ≡ Ok found → decls_of db ≡ decls_in found → select_rows select schema db ≡ answer found db }
+    ensures { (select : Select) (schema : List Declaration) (found : Query) → IsFormed select → bound select schema ≡ Ok found → AsksForRowsOf select schema found }
 {}

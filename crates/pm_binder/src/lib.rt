@@ -14,8 +14,8 @@ mod tests;
 mod worked;
 
 pub use binding::bind;
-pub use pm_names::BindBad;
 pub use laws::{declared_are_tables, queries_are_bound, readings_are_formed, rows_are_answers};
+pub use pm_names::BindBad;
 pub use worked::{
     grouping_worked, joins_worked, kinds_worked, names_worked, queries_worked, rows_worked,
     sources_worked,

@@ -1,19 +1,18 @@
 //! SELECT, GROUP BY, HAVING and ORDER BY with their names resolved.
-ghost use Rattle.std.specs.Prelude.{◌≡◌, ◌++◌, ◌<◌, ◌≤◌, ◌^◌, length, map, nat_eq, IfOk, OnOk};
-ghost use Rattle.std.specs.List.{count_by, find, list_any};
+ghost use Rattle.std.specs.Prelude.{◌≡◌, ◌<◌, ◌^◌, length, map, IfOk};
+ghost use Rattle.std.specs.List.{find, list_any};
 ghost use Rattle.std.specs.Option.{option_copied};
-ghost use Rattle.pm_values.specs.Keys.{once};
 ghost use Rattle.pm_canonical.specs.Canon.{canon_expr};
 ghost use Rattle.pm_names.specs.Breaches.{verdict};
 ghost use Rattle.pm_names.specs.Names.{column_of};
-ghost use Rattle.pm_binder.specs.Grouping.{item_list, star_of, all_terms, list_terms, item_terms, item_breaches, expr_head, head_or, item_head, heads_of, is_given, names_item, ordered_by, order_term, order_breaches, orders_breaches, is_call, having_terms, key_columns, is_grouped, terms_of};
+ghost use Rattle.pm_binder.specs.Grouping.{item_list, star_of, all_terms, list_terms, item_terms, item_breaches, expr_head, item_head, heads_of, is_given, names_item, ordered_by, order_term, order_breaches, orders_breaches, is_call, having_terms, key_columns, is_grouped, terms_of};
 
 use crate::terms::{OrderTerm, OrderTerms, Terms};
+use pm_canonical::put_expr;
 use pm_names::{
     BindBad, KnownColumn, PlacedTerm, PlacedTerms, Term, check_expr, column_of, expr_at,
     placed_term, push_new, push_terms, term_of,
 };
-use pm_canonical::put_expr;
 use pm_syntax::{ColumnName, Expr, Item, Items, OrderItem, PlacedName, Select, Test};
 use pm_values::{Columns, Names, Txt};
 use std::alloc::{AllocError, Global};

@@ -1,44 +1,31 @@
-//! Statements over a schema, and what they are bound to, up to the largest.
+//! Statements over a schema, and what they are bound to.
 use crate::{BindBad, bind};
 use pm_lexer::lex;
-use pm_schema::{Schema, read_schema};
-use pm_syntax::{Select, parse};
-use pm_values::{TableDecls, Txt};
+use pm_schema::read_schema;
+use pm_syntax::parse;
+use pm_values::Txt;
 use std::alloc::{AllocError, Global};
 use std::test::Fail;
 
-// The tables that a text declares, none where it declares none.
-fn schema_of(alloc: Global, text: &str) -> Result<Schema, AllocError> {
-    let text = Txt::new(alloc, text)?;
-    let Ok(tokens) = lex(alloc, &text) else {
-        return Ok(TableDecls::new(alloc));
-    };
-    match read_schema(alloc, &tokens) {
-        Ok(schema) => Ok(schema),
-        Err(_) => Ok(TableDecls::new(alloc)),
-    }
-}
+const SHOP: &str =
+    "TABLE cust FROM 'c' (id INT NOT NULL, name TEXT, KEY (id)); TABLE ord FROM 'o' (id INT NOT NULL, cust INT NOT NULL, amt INT NOT NULL, KEY (id));";
 
-fn statement_of(alloc: Global, text: &str) -> Result<Option<Select>, AllocError> {
-    let text = Txt::new(alloc, text)?;
-    let Ok(tokens) = lex(alloc, &text) else {
-        return Ok(None);
-    };
-    match parse(alloc, &tokens) {
-        Ok(select) => Ok(Some(select)),
-        Err(_) => Ok(None),
-    }
-}
-
-// How many conjuncts and outputs the query has that a statement is bound to, or the refusal; None where the text is no
-// statement.
+// How many conjuncts and outputs the query has that the text is bound to over the shop's tables, or the refusal; None where
+// it is no statement.
 fn answer(
     alloc: Global,
-    schema: &str,
     text: &str,
 ) -> Result<Option<Result<(usize, usize), BindBad>>, AllocError> {
-    let schema = schema_of(alloc, schema)?;
-    let Some(select) = statement_of(alloc, text)? else {
+    let Ok(shop) = lex(alloc, &Txt::new(alloc, SHOP)?) else {
+        return Ok(None);
+    };
+    let Ok(schema) = read_schema(alloc, &shop) else {
+        return Ok(None);
+    };
+    let Ok(tokens) = lex(alloc, &Txt::new(alloc, text)?) else {
+        return Ok(None);
+    };
+    let Ok(select) = parse(alloc, &tokens) else {
         return Ok(None);
     };
     if schema.len() > 64 {
@@ -50,9 +37,6 @@ fn answer(
     }
 }
 
-const SHOP: &str =
-    "TABLE cust FROM 'c' (id INT NOT NULL, name TEXT, KEY (id)); TABLE ord FROM 'o' (id INT NOT NULL, cust INT NOT NULL, amt INT NOT NULL, KEY (id));";
-
 #[test]
 fn statements_are_bound(rt: HostRuntime) -> Result<(), Fail> {
     let cases = [
@@ -60,57 +44,15 @@ fn statements_are_bound(rt: HostRuntime) -> Result<(), Fail> {
             "SELECT c.name, SUM(o.amt) FROM ord o JOIN cust c ON o.cust = c.id AND (o.amt > 1 AND o.id > 2) GROUP BY c.name HAVING COUNT(*) > 1",
             Ok((3, 2)),
         ),
+        (
+            "SELECT DISTINCT c.name FROM cust c LEFT JOIN ord o ON o.cust = c.id WHERE o.amt NOT IN (7, NULL) ORDER BY c.name",
+            Ok((2, 1)),
+        ),
         ("SELECT * FROM ord", Ok((0, 3))),
         ("SELECT id FROM nope", Err(BindBad::NoTable(15))),
-        ("SELECT x.id FROM ord o", Err(BindBad::NoColumn(7))),
-        (
-            "SELECT o.id FROM cust c LEFT JOIN ord o ON o.cust = c.id AND c.name = 'Ann'",
-            Err(BindBad::LeftOn(34)),
-        ),
     ];
     for (text, want) in cases {
-        assert_eq!(rt; answer(rt.alloc(), SHOP, text)?, Some(want), "{text}");
+        assert_eq!(rt; answer(rt.alloc(), text)?, Some(want), "{text}");
     }
-    Ok(())
-}
-
-// Eight tables t0, t1, .. of 64 columns c0, c1, .. each.
-fn wide_schema(alloc: Global) -> Result<String, AllocError> {
-    let mut text = String::new(alloc);
-    for t in 0..8 {
-        text.push_str(format!(in alloc; "TABLE t{t} FROM 'f' (c0 INT")?.as_str())?;
-        for c in 1..64 {
-            text.push_str(format!(in alloc; ", c{c} INT")?.as_str())?;
-        }
-        text.push_str(");")?;
-    }
-    Ok(text)
-}
-
-// 64 items over these tables, each joined to the first one, with a list of 256 conditions.
-fn wide_statement(alloc: Global) -> Result<String, AllocError> {
-    let mut text = String::from_str(alloc, "SELECT t0.c0")?;
-    for c in 1..64 {
-        text.push_str(format!(in alloc; ", t7.c{c}")?.as_str())?;
-    }
-    text.push_str(" FROM t0")?;
-    for t in 1..8 {
-        text.push_str(format!(in alloc; " JOIN t{t} ON t{t}.c63 = t0.c{t}")?.as_str())?;
-    }
-    text.push_str(" WHERE t0.c0 = 0")?;
-    for _ in 1..256 {
-        text.push_str(" AND t7.c63 < t7.c62")?;
-    }
-    Ok(text)
-}
-
-#[test]
-fn the_widest_statement_is_bound(rt: HostRuntime) -> Result<(), Fail> {
-    let schema = wide_schema(rt.alloc())?;
-    let text = wide_statement(rt.alloc())?;
-    assert_eq!(rt;
-        answer(rt.alloc(), schema.as_str(), text.as_str())?,
-        Some(Ok((263, 64)))
-    );
     Ok(())
 }

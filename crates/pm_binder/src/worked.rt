@@ -1,10 +1,10 @@
 //! Worked examples, each a clause of a function that does nothing.
 ghost use Rattle.std.specs.Prelude.{Ok, Err, codes, [], ◌∷◌};
-ghost use Rattle.pm_values.specs.declared.value.Value.TheVariants.{Null, Text};
+ghost use Rattle.pm_values.specs.declared.value.Value.TheVariants.{Text};
 ghost use Rattle.pm_plan.specs.Worked.{number, customer_decl, order_decl, shop};
 ghost use Rattle.pm_query.specs.Worked.{large_orders};
 ghost use Rattle.pm_names.specs.declared.fault.BindBad.TheVariants as bad;
-ghost use Rattle.pm_binder.specs.Worked.{TextBinds, TextAsksFor, joined_twice, left_joined, totals, hidden_column, counted, swapped};
+ghost use Rattle.pm_binder.specs.Worked.{TextBinds, TextAsksFor, customers_with_amounts, joined_twice, left_joined, totals, hidden_column, counted, swapped};
 
 /// Sources: at most eight; a table that is not there is told before a name that is not; an alias is given or taken.
 pub fn sources_worked()
@@ -62,7 +62,7 @@ pub fn queries_worked()
 /// WHERE after; of groups in the order of an aggregate; of different values; and of BETWEEN and IN.
 pub fn rows_worked()
     ensures joined { TextAsksFor (codes "SELECT c.name, o.amt FROM ord o JOIN cust c ON o.cust = c.id WHERE o.amt > 5") shop ((Text (codes "Ann") ∷ number 7 ∷ []) ∷ (Text (codes "Cy") ∷ number 9 ∷ []) ∷ []) }
-    ensures left { TextAsksFor (codes "SELECT c.name, o.amt FROM cust c LEFT JOIN ord o ON o.cust = c.id") shop ((Text (codes "Ann") ∷ number 5 ∷ []) ∷ (Text (codes "Ann") ∷ number 7 ∷ []) ∷ (Text (codes "Bob") ∷ Null ∷ []) ∷ (Text (codes "Cy") ∷ number 9 ∷ []) ∷ []) }
+    ensures left { TextAsksFor (codes "SELECT c.name, o.amt FROM cust c LEFT JOIN ord o ON o.cust = c.id") shop customers_with_amounts }
     ensures unmatched { TextAsksFor (codes "SELECT c.name FROM cust c LEFT JOIN ord o ON o.cust = c.id WHERE o.amt IS NULL") shop ((Text (codes "Bob") ∷ []) ∷ []) }
     ensures grouped { TextAsksFor (codes "SELECT cust, SUM(amt) AS t FROM ord GROUP BY cust ORDER BY t DESC, cust") shop ((number 1 ∷ number 12 ∷ []) ∷ (number 3 ∷ number 9 ∷ []) ∷ (number 9 ∷ number 1 ∷ []) ∷ []) }
     ensures having { TextAsksFor (codes "SELECT MAX(amt) FROM ord HAVING COUNT(*) > 9") shop [] }

@@ -1,7 +1,6 @@
 -- the bounds of a tree's nodes are read by their numbers
-use Rattle.std.proofs.Common.{◌≡◌, ℕ, ◌+◌, [], ◌∷◌, ◌++◌, length, refl, subst}
+use Rattle.std.proofs.Common.{◌≡◌, ℕ, [], length, refl, subst}
 use Rattle.std.proofs.lemmas.List.{append-nil}
-use Rattle.pm_plan.specs.declared.gauge.Bound.{Bound}
 use Rattle.pm_plan.specs.Tree.{Tree, size}
 use Rattle.pm_plan.proofs.Walks.{length-list_at, AreItems, AreItems-list_at}
 use Rattle.pm_work.specs.Moments.{Gauges}

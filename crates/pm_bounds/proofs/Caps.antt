@@ -1,16 +1,15 @@
 -- sums and products that stop at a greatest number give the same bounds where those stay within it
-use Rattle.std.proofs.Common.{◌≡◌, ℕ, suc, zero, ◌+◌, ◌*◌, ◌-◌, ◌<◌, ◌≤◌, Bool, true, false, List, [], ◌∷◌, ◌++◌, length, get_or, min, max, refl, sym, ap, ◌∙◌, ◌⊎◌, inl, inr, arith}
-use Rattle.std.specs.Prelude.{All}
+use Rattle.std.proofs.Common.{◌≡◌, ℕ, suc, zero, ◌+◌, ◌*◌, ◌-◌, ◌<◌, ◌≤◌, Bool, true, false, List, [], ◌∷◌, ◌++◌, min, max, refl, sym, ap, ◌∙◌, ◌⊎◌, inl, inr, arith}
 use Rattle.std.proofs.lemmas.Bool.{cases_lt}
 use Rattle.std.proofs.lemmas.List.Elements.{All-head, All-tail}
 use Rattle.std.proofs.Math.Nat.{mul-le-mul, le_refl}
 use Rattle.pm_plan.specs.declared.gauge.Gauge.{Gauge}
 use Rattle.pm_plan.specs.declared.plan.Unique.{Unique}
-use Rattle.pm_plan.specs.Tree.{Unary, Filter, Project, Sort, Group, Method, Hash, Merge, Tree, Scan, Over, Join, Index, Seek, right_number, sum_in}
+use Rattle.pm_plan.specs.Tree.{Unary, Filter, Project, Sort, Group, Method, Hash, Merge, Tree, Scan, Over, Join, Index, Seek, right_number}
 use Rattle.pm_plan.proofs.Walks.{EachAt-root}
 use Rattle.pm_work.specs.Formulas.{exact, up_to, Side, unread, capped_if, hi_over, pairs_hi, most_matches, hi_joined, seek_hi, index_hi}
 use Rattle.pm_work.specs.Moments.{Gauges}
-use Rattle.pm_work.specs.First.{Sizes, size_in, unstarted, uncounted, unstarted_seek, first_worst, first_seek, first_hi, first_sum}
+use Rattle.pm_work.specs.First.{Sizes, size_in, unstarted, uncounted, unstarted_seek, first_seek, first_hi, first_sum}
 use Rattle.pm_bounds.specs.Bounds.{hi_by, hi, hi_of_seek, side_of, seek_above}
 use Rattle.pm_bounds.specs.Capped.{AllUpTo, SizesUpTo, capped_sum, first_bounds}
 
@@ -75,7 +74,7 @@ min_apart top a b = omega arith
 -- ---- operators
 
 module _ (top : ℕ) (one : 1 ≤ top) where
-  over_capped : (op : Unary) (g : Gauge) (child : Side) → child.hi ≤ top → hi_over (up_to top) op g child ≡ min top (hi_over exact op g child)
+  pub over_capped : (op : Unary) (g : Gauge) (child : Side) → child.hi ≤ top → hi_over (up_to top) op g child ≡ min top (hi_over exact op g child)
   over_capped (Filter c) g child a = refl
   over_capped (Project columns) g child a = omega (arith, a)
   over_capped (Sort keys) g child a = omega (arith, a)
@@ -88,7 +87,7 @@ module _ (top : ℕ) (one : 1 ≤ top) where
   most_capped : (u : Unique) (g : Gauge) (R : Side) → most_matches (up_to top) u g R ≡ min top (most_matches exact u g R)
   most_capped u g R = capped_outside top u.right 1 (g.worst + unread R)
 
-  joined_capped : (method : Method) (u : Unique) (g : Gauge) (L R : Side) → L.hi ≤ top → R.hi ≤ top
+  pub joined_capped : (method : Method) (u : Unique) (g : Gauge) (L R : Side) → L.hi ≤ top → R.hi ≤ top
       → hi_joined (up_to top) method u g L R ≡ min top (hi_joined exact method u g L R)
   joined_capped Merge u g L R a b = pairs_capped u g L R a b
   joined_capped (Hash false) u g L R a b =
@@ -101,7 +100,7 @@ module _ (top : ℕ) (one : 1 ≤ top) where
       (ap (max 1) (most_capped u g R) ∙ capped_least top (most_matches exact u g R) one))
       ∙ capped_both top u.left (L.hi + R.hi) (g.settled + unread L * max 1 (most_matches exact u g R))
 
-  seek_capped : (u : Unique) (g : Gauge) (L : Side) → seek_hi (up_to top) u g L ≡ min top (seek_hi exact u g L)
+  pub seek_capped : (u : Unique) (g : Gauge) (L : Side) → seek_hi (up_to top) u g L ≡ min top (seek_hi exact u g L)
   seek_capped u g L =
       ap (λ x. capped_if u.left g.size x) (inner g.settled (unread L * g.worst)) ∙ capped_outside top u.left g.size (g.settled + unread L * g.worst)
     where
@@ -110,7 +109,7 @@ module _ (top : ℕ) (one : 1 ≤ top) where
 
 -- ---- the bounds of a moment
 
-within : (top x y : ℕ) → x ≡ min top y → y ≤ top → x ≡ y
+pub within : (top x y : ℕ) → x ≡ min top y → y ≤ top → x ≡ y
 within top x y e a = omega (arith, e, a)
 
 module _ (top : ℕ) (one : 1 ≤ top) (G : Gauges) where
@@ -219,6 +218,15 @@ size_up_to top [] table a = omega arith
 size_up_to top (size ∷ sizes) zero a = All-head (λ x. x ≤ top) size sizes a
 size_up_to top (size ∷ sizes) (suc table) a = size_up_to top sizes table (All-tail (λ x. x ≤ top) size sizes a)
 
+-- a capped sum of two lists
+pub capped_sum-append : (top : ℕ) (xs ys : List ℕ) → capped_sum top (xs ++ ys) ≡ min top (capped_sum top xs + capped_sum top ys)
+capped_sum-append top [] ys = capped_once ys
+  where
+    capped_once : (ys : List ℕ) → capped_sum top ys ≡ min top (0 + capped_sum top ys)
+    capped_once [] = omega arith
+    capped_once (y ∷ ys) = omega arith
+capped_sum-append top (x ∷ xs) ys = omega (arith, capped_sum-append top xs ys)
+
 module _ (top : ℕ) (one : 1 ≤ top) (sizes : Sizes) (few : SizesUpTo top sizes) where
   first_seek_of : (seek : Seek) (x h : ℕ) → x ≡ min top h → first_seek (up_to top) sizes seek x ≡ min top (first_seek exact sizes seek h)
   first_seek_of seek x h e =
@@ -250,24 +258,16 @@ module _ (top : ℕ) (one : 1 ≤ top) (sizes : Sizes) (few : SizesUpTo top size
   first_seek_is left seek = first_seek_of seek _ _ (first_capped_is left)
 
   -- their sum
-  capped_sum-append : (xs ys : List ℕ) → capped_sum top (xs ++ ys) ≡ min top (capped_sum top xs + capped_sum top ys)
-  capped_sum-append [] ys = capped_once ys
-    where
-      capped_once : (ys : List ℕ) → capped_sum top ys ≡ min top (0 + capped_sum top ys)
-      capped_once [] = omega arith
-      capped_once (y ∷ ys) = omega arith
-  capped_sum-append (x ∷ xs) ys = omega (arith, capped_sum-append xs ys)
-
   pub first_sum_is : (tree : Tree) → capped_sum top (first_bounds (up_to top) sizes tree) ≡ min top (first_sum sizes tree)
   first_sum_is (Scan table label) = omega (arith, first_capped_is (Scan table label))
   first_sum_is (Over op child) = omega (arith, first_capped_is (Over op child), first_sum_is child)
   first_sum_is (Join method on left right) =
-      omega (arith, first_capped_is (Join method on left right), capped_sum-append (first_bounds (up_to top) sizes left) (first_bounds (up_to top) sizes right), first_sum_is left, first_sum_is right)
+      omega (arith, first_capped_is (Join method on left right), capped_sum-append top (first_bounds (up_to top) sizes left) (first_bounds (up_to top) sizes right), first_sum_is left, first_sum_is right)
   first_sum_is (Index left seek c) =
       omega (
         arith,
         first_capped_is (Index left seek c),
-        capped_sum-append (first_bounds (up_to top) sizes left) (first_seek (up_to top) sizes seek (first_hi (up_to top) sizes left) ∷ []),
+        capped_sum-append top (first_bounds (up_to top) sizes left) (first_seek (up_to top) sizes seek (first_hi (up_to top) sizes left) ∷ []),
         first_sum_is left,
         first_seek_is left seek,
       )

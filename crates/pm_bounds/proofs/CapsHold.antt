@@ -1,5 +1,5 @@
 -- where the first bound of the whole work is small enough, the bounds as they are computed are the bounds
-use Rattle.std.proofs.Common.{◌≡◌, ℕ, ◌+◌, ◌<◌, ◌≤◌, ◌^◌, min, refl, arith}
+use Rattle.std.proofs.Common.{◌≡◌, ℕ, ◌+◌, ◌<◌, ◌≤◌, min, refl, arith}
 use Rattle.std.proofs.Math.Nat.{le_trans}
 use Rattle.pm_plan.specs.Rows.{Db}
 use Rattle.pm_plan.specs.Tree.{Tree, Scan, Over, Join, Index, Seek, right_number, EachAt, sum_at}
@@ -15,7 +15,7 @@ use Rattle.pm_bounds.proofs.Wholes.{whole_within_first}
 
 -- no term of a sum is above the sum
 module _ (f : Tree → ℕ → ℕ) (s : Tree → Seek → ℕ → ℕ) (top : ℕ) where
-  each_up_to : (tree : Tree) (n : ℕ) → sum_at f s tree n ≤ top → EachAt (λ t m. f t m ≤ top) (λ left seek m. s left seek m ≤ top) tree n
+  pub each_up_to : (tree : Tree) (n : ℕ) → sum_at f s tree n ≤ top → EachAt (λ t m. f t m ≤ top) (λ left seek m. s left seek m ≤ top) tree n
   each_up_to (Scan table label) n a = a
   each_up_to (Over op child) n a = (omega (arith, a), each_up_to child (n + 1) (omega (arith, a)))
   each_up_to (Join method on left right) n a =
@@ -34,7 +34,7 @@ module _ (top : ℕ) (one : 1 ≤ top) (G : Gauges) where
       (hi_capped_is top one G (Index left seek c) n a, hi_of_seek_capped_is top one G left seek n a.2 a.1, capped_at_each left (n + 1) a.2)
 
 -- the limit of the first bound is below the greatest number
-below_greatest : most_work < greatest
+pub below_greatest : most_work < greatest
 below_greatest = omega arith
 
 some : 1 ≤ greatest

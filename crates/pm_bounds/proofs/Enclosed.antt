@@ -1,13 +1,12 @@
 -- at each node the count, the lower bound, the rows and the upper bound stand in this order
-use Rattle.std.proofs.Common.{◌≡◌, ℕ, ◌+◌, ◌≤◌, List, length, take, ap, sym, subst, ◌∙◌, arith}
-use Rattle.pm_values.specs.Row.{Row}
+use Rattle.std.proofs.Common.{◌≡◌, ℕ, ◌+◌, length, ap, sym, subst, arith}
 use Rattle.pm_plan.specs.Rows.{Db, table_rows, decls_of}
-use Rattle.pm_plan.specs.Joins.{right_columns, join, worst}
+use Rattle.pm_plan.specs.Joins.{join}
 use Rattle.pm_plan.specs.Kinds.{width}
 use Rattle.pm_plan.specs.Tree.{Tree, Scan, Over, Join, Index, Seek, right_number}
 use Rattle.pm_plan.specs.Outputs.{output, sought, keeps_if}
 use Rattle.pm_plan.proofs.Walks.{EachAt-root}
-use Rattle.pm_work.specs.Moments.{Counts, Gauges, settled, seek_settled, worst_at, gauge_of, seek_gauge, HasGauges}
+use Rattle.pm_work.specs.Moments.{Counts, Gauges, settled, worst_at, gauge_of, seek_gauge, HasGauges}
 use Rattle.pm_work.specs.Orderly.{IsOrderly, SeekIsOrderly, Orderly}
 use Rattle.pm_work.specs.Facts.{AllFlagsHold, FlagsHold}
 use Rattle.pm_work.proofs.Joins.{length-sought}

@@ -1,5 +1,5 @@
 -- after all events: each bound is exact, and the work done is the whole work
-use Rattle.std.proofs.Common.{◌≡◌, ℕ, length, ◌∙◌}
+use Rattle.std.proofs.Common.{◌≡◌, length, ◌∙◌}
 use Rattle.pm_plan.specs.Rows.{Db}
 use Rattle.pm_plan.specs.Tree.{Tree, right_number}
 use Rattle.pm_plan.specs.Outputs.{output, sought}

@@ -10,7 +10,7 @@ use Rattle.pm_work.specs.Formulas.{exact, index_hi}
 use Rattle.pm_work.specs.Moments.{Counts, Gauges, seek_gauge, HasGauges}
 use Rattle.pm_work.specs.Orderly.{Orderly}
 use Rattle.pm_work.specs.Facts.{AllFlagsHold}
-use Rattle.pm_bounds.specs.Bounds.{hi, hi_of_seek, bound_of, bound_of_seek}
+use Rattle.pm_bounds.specs.Bounds.{hi, hi_of_seek, bound_of}
 use Rattle.pm_bounds.specs.Enclosure.{IsExact, AllExact}
 use Rattle.pm_bounds.proofs.Over.{over_ends}
 use Rattle.pm_bounds.proofs.Joined.{side, joined_ends}

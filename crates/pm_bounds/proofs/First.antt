@@ -1,11 +1,10 @@
 -- no upper bound is above the first one
-use Rattle.std.proofs.Common.{◌≡◌, ℕ, suc, zero, ◌+◌, ◌≤◌, List, [], ◌∷◌, length, take, refl, ap, sym, subst, ◌∙◌, arith}
-use Rattle.pm_values.specs.Row.{Row}
+use Rattle.std.proofs.Common.{◌≡◌, ℕ, suc, zero, ◌+◌, ◌≤◌, [], ◌∷◌, length, refl, ap, sym, subst, arith}
 use Rattle.pm_plan.specs.Rows.{Db, table_rows, decls_of}
 use Rattle.pm_plan.specs.Joins.{join}
 use Rattle.pm_plan.specs.Kinds.{width}
 use Rattle.pm_plan.specs.Tree.{Tree, Scan, Over, Join, Index, Seek, right_number}
-use Rattle.pm_plan.specs.Outputs.{output, sought, keeps_if}
+use Rattle.pm_plan.specs.Outputs.{output, keeps_if}
 use Rattle.pm_work.specs.Formulas.{exact, index_hi}
 use Rattle.pm_work.specs.Moments.{Counts, Gauges, seek_gauge, HasGauges}
 use Rattle.pm_work.specs.Orderly.{Orderly}

@@ -1,14 +1,12 @@
 -- how many groups rows make
-use Rattle.std.proofs.Common.{◌≡◌, ℕ, suc, zero, ◌+◌, ◌-◌, ◌<◌, ◌≤◌, Bool, true, false, cond, not, List, [], ◌∷◌, ◌++◌, length, map, take, drop, min, refl, ap, ◌∙◌, inl, inr, arith, length-append, length-drop, length-take}
+use Rattle.std.proofs.Common.{◌≡◌, ℕ, suc, zero, ◌+◌, ◌-◌, ◌≤◌, not, List, [], ◌∷◌, ◌++◌, length, map, take, drop, min, refl, ap, ◌∙◌, arith, length-append, length-drop, length-take}
 use Rattle.std.specs.List.{filter}
 use Rattle.std.proofs.lemmas.List.{length-map, map-append, take-append-drop}
 use Rattle.std.proofs.lemmas.List.Elements.{filter-append}
-use Rattle.std.proofs.lemmas.Bool.{cases_lt}
-use Rattle.std.proofs.Math.Seq.{take-length}
 use Rattle.pm_values.specs.Row.{Row, pick}
 use Rattle.pm_values.specs.Equality.{same_values}
 use Rattle.pm_plan.specs.declared.plan.Aggregate.{Aggregate}
-use Rattle.pm_values.specs.Keys.{once, different_keys}
+use Rattle.pm_values.specs.Keys.{once}
 use Rattle.pm_values.proofs.KeyCounts.{length-filter_le, length-once_le}
 use Rattle.pm_plan.specs.Grouping.{group_keys, group_row, grouped}
 

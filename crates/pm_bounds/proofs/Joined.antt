@@ -1,23 +1,21 @@
 -- the bounds of a join of two sides, from what is known of the sides
-use Rattle.std.proofs.Common.{◌≡◌, ℕ, suc, zero, ◌+◌, ◌-◌, ◌*◌, ◌<◌, ◌≤◌, Bool, true, false, List, [], ◌∷◌, length, take, drop, min, max, refl, sym, ap, subst, ◌∙◌, ◌⊎◌, inl, inr, arith, length-drop, length-take}
+use Rattle.std.proofs.Common.{◌≡◌, ℕ, suc, ◌+◌, ◌-◌, ◌*◌, ◌<◌, ◌≤◌, Bool, true, false, List, length, take, drop, min, max, refl, sym, ap, subst, ◌∙◌, ◌⊎◌, inl, inr, arith, length-drop, length-take}
 use Rattle.std.specs.Prelude.{if◌then◌else◌}
 use Rattle.std.proofs.lemmas.Bool.{cases_lt}
 use Rattle.std.proofs.Math.Nat.{mul-le-mul, le_refl, le_trans}
-use Rattle.std.proofs.Math.Seq.{take-length}
 use Rattle.pm_values.specs.Row.{Row}
 use Rattle.pm_plan.specs.declared.gauge.Gauge.{Gauge}
 use Rattle.pm_plan.specs.declared.gauge.Bound.{Bound}
-use Rattle.pm_plan.specs.declared.plan.Pair.{Pair}
 use Rattle.pm_plan.specs.declared.plan.Unique.{Unique}
-use Rattle.pm_plan.specs.Joins.{left_columns, right_columns, join, joined_by, worst, rows_for}
+use Rattle.pm_plan.specs.Joins.{right_columns, join, joined_by, worst}
 use Rattle.pm_plan.specs.Tree.{Method, Hash, Merge, On, pads}
-use Rattle.pm_work.specs.Formulas.{exact, Side, capped_if, pairs_hi, most_matches, hi_joined}
+use Rattle.pm_work.specs.Formulas.{exact, Side, pairs_hi, most_matches, hi_joined}
 use Rattle.pm_work.specs.First.{unstarted, uncounted}
 use Rattle.pm_work.specs.Moments.{worst_joined}
 use Rattle.pm_work.specs.Orderly.{JoinIsOrderly}
-use Rattle.pm_work.specs.Facts.{AtMostOne, FlagsHold}
+use Rattle.pm_work.specs.Facts.{FlagsHold}
 use Rattle.pm_work.proofs.Joins.{at_least_one_if, at_least_mono, worst_cut, worst_step, worst_one, worst_few, AtMostOne_take, joined_le_worst, joined_cut_left, joined_cut_right, joined_step_left, joined_step_worst, joined_settled, joined_take_le, joined_ge, joined_le_left, join_le_product, join_step_right, join_le_right, join_ge, padded_le, padded_each, padded_step, joined_row_le}
-use Rattle.pm_bounds.specs.Bounds.{lo_joined, lo_matched}
+use Rattle.pm_bounds.specs.Bounds.{lo_joined}
 use Rattle.pm_bounds.specs.Enclosure.{Encloses, Narrows}
 use Rattle.pm_bounds.proofs.Pairs.{capped_above, capped_mono, capped_below, min_mono, pairs_sum, pairs_above, pairs_left, pairs_right, pairs_still, pairs_first, pairs_end, rated, rate_above, rate_left, rate_still, rate_first, nothing_left}
 

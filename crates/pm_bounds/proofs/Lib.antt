@@ -13,3 +13,7 @@ pub mod Caps
 pub mod CapsHold
 pub mod Moments
 pub mod Ends
+pub mod Parts
+pub mod Written
+pub mod Firsts
+pub mod Trees

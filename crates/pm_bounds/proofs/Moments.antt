@@ -5,7 +5,7 @@ use Rattle.std.proofs.Math.Nat.{le_refl}
 use Rattle.std.proofs.lemmas.Bool.{eq-eqb, ne_eqb}
 use Rattle.std.proofs.lemmas.List.{append-nil, take-append-drop, take_all}
 use Rattle.pm_plan.specs.Rows.{Db}
-use Rattle.pm_plan.specs.Tree.{Tree, Seek, right_number}
+use Rattle.pm_plan.specs.Tree.{Tree, right_number}
 use Rattle.pm_plan.specs.Outputs.{output, sought}
 use Rattle.pm_plan.proofs.Walks.{EachAt-map, EachAt-both}
 use Rattle.pm_work.specs.Events.{Event, events, rows_at, trace, counts}
@@ -17,8 +17,7 @@ use Rattle.pm_work.proofs.Counting.{length-events, events_each}
 use Rattle.pm_work.proofs.Flags.{flags, merges_ascend}
 use Rattle.pm_work.proofs.Gauges.{has_gauges}
 use Rattle.pm_work.proofs.Orders.{Orderly-events}
-use Rattle.pm_bounds.specs.Bounds.{bound_of, bound_of_seek}
-use Rattle.pm_bounds.specs.Enclosure.{IsNext, Narrows, AllEnclosed, AllNarrow}
+use Rattle.pm_bounds.specs.Enclosure.{IsNext, AllEnclosed, AllNarrow}
 use Rattle.pm_bounds.proofs.Enclosed.{IsEnclosed, IsSeekEnclosed, all_enclosed}
 use Rattle.pm_bounds.proofs.Narrow.{IsNarrowed, IsSeekNarrowed, all_narrowed}
 use Rattle.pm_bounds.proofs.Exact.{AtEnd}

@@ -1,7 +1,6 @@
 -- from one moment to the next no lower bound falls and no upper bound rises
-use Rattle.std.proofs.Common.{◌≡◌, ◌≢◌, ℕ, suc, ◌+◌, ◌≤◌, List, length, sym, subst, ap, ◌∙◌, ◌⊎◌, inl, inr, arith}
+use Rattle.std.proofs.Common.{◌≡◌, ◌≢◌, ℕ, suc, ◌+◌, ◌≤◌, sym, subst, ap, ◌∙◌, inl, inr, arith}
 use Rattle.std.proofs.lemmas.Bool.{cases_eq}
-use Rattle.pm_values.specs.Row.{Row}
 use Rattle.pm_plan.specs.Rows.{Db, table_rows, decls_of}
 use Rattle.pm_plan.specs.Joins.{join}
 use Rattle.pm_plan.specs.Kinds.{width}
@@ -24,7 +23,7 @@ IsNarrowed tree n G H = Narrows (bound_of tree n G) (bound_of tree n H)
 abbrev pub IsSeekNarrowed : Tree → Seek → ℕ → Gauges → Gauges → Type 0
 IsSeekNarrowed left seek n G H = Narrows (bound_of_seek left seek n G) (bound_of_seek left seek n H)
 
-size_pos : (t : Tree) → 1 ≤ size t
+pub size_pos : (t : Tree) → 1 ≤ size t
 size_pos (Scan table label) = omega arith
 size_pos (Over op child) = omega arith
 size_pos (Join method on left right) = omega arith

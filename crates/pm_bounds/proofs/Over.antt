@@ -1,5 +1,5 @@
 -- the bounds of an operator over a child, from what is known of the child
-use Rattle.std.proofs.Common.{◌≡◌, ℕ, suc, zero, ◌+◌, ◌-◌, ◌<◌, ◌≤◌, List, [], ◌∷◌, length, take, drop, min, refl, ap, sym, ◌∙◌, ◌⊎◌, inl, inr, arith, length-take}
+use Rattle.std.proofs.Common.{◌≡◌, ℕ, suc, ◌+◌, ◌≤◌, List, [], ◌∷◌, length, take, ap, ◌∙◌, ◌⊎◌, inl, inr, arith, length-take}
 use Rattle.std.proofs.lemmas.List.{length-map}
 use Rattle.std.proofs.lemmas.Bool.{cases_lt}
 use Rattle.std.proofs.Math.Seq.{take-length}
@@ -9,7 +9,7 @@ use Rattle.pm_plan.specs.declared.gauge.Gauge.{Gauge}
 use Rattle.pm_plan.specs.declared.gauge.Bound.{Bound}
 use Rattle.pm_plan.specs.Outputs.{rows_over}
 use Rattle.pm_plan.specs.Tree.{Unary, Filter, Project, Sort, Group}
-use Rattle.pm_work.specs.Formulas.{exact, Side, hi_over}
+use Rattle.pm_work.specs.Formulas.{exact, hi_over}
 use Rattle.pm_work.specs.First.{unstarted, uncounted}
 use Rattle.pm_work.specs.Moments.{settled_over}
 use Rattle.pm_work.specs.Orderly.{OverIsOrderly}

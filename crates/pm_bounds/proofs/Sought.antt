@@ -1,5 +1,5 @@
 -- the bounds of a Seek, from what is known of its left side, and of an Index, from what is known of its Seek
-use Rattle.std.proofs.Common.{◌≡◌, ℕ, suc, ◌+◌, ◌-◌, ◌*◌, ◌<◌, ◌≤◌, Bool, true, false, List, length, take, drop, refl, sym, ap, subst, ◌∙◌, ◌⊎◌, inl, inr, arith, length-drop, length-take}
+use Rattle.std.proofs.Common.{◌≡◌, ℕ, suc, ◌+◌, ◌-◌, ◌*◌, ◌≤◌, Bool, true, false, List, length, take, drop, refl, sym, ap, subst, ◌∙◌, inl, inr, arith, length-drop, length-take}
 use Rattle.std.specs.List.{filter, flat_map}
 use Rattle.std.proofs.Math.Nat.{mul-le-mul, le_refl, le_trans}
 use Rattle.std.proofs.Math.Seq.{take-length}
@@ -11,12 +11,12 @@ use Rattle.pm_plan.specs.Tree.{Merge, On}
 use Rattle.pm_work.specs.Formulas.{exact, seek_hi, index_hi}
 use Rattle.pm_work.specs.First.{unstarted, uncounted, first_worst}
 use Rattle.pm_work.specs.Facts.{AtMostOne, FlagsHold}
-use Rattle.pm_work.proofs.Joins.{length-filter_le, length-filter_cut, length-filter_take, length-filter_step, worst_one, worst_few, joined_le_worst, joined_cut_left, joined_step_worst, joined_le_left, join_le_right, join_ge, length-sought}
+use Rattle.pm_work.proofs.Joins.{length-filter_le, length-filter_cut, length-filter_take, length-filter_step, worst_one, worst_few, joined_le_worst, joined_cut_left, joined_step_worst, join_le_right, join_ge, length-sought}
 use Rattle.pm_bounds.specs.Bounds.{lo_matched}
 use Rattle.pm_bounds.specs.Enclosure.{Encloses, Narrows}
 use Rattle.pm_bounds.proofs.Over.{Moves}
 use Rattle.pm_bounds.proofs.Pairs.{capped_above, capped_mono, capped_below, rated, rate_left, rate_still, rate_first, nothing_left}
-use Rattle.pm_bounds.proofs.Joined.{side, matched, matched_counts, matched_below, matched_mono}
+use Rattle.pm_bounds.proofs.Joined.{side, matched_counts, matched_below, matched_mono}
 
 -- the rows that are found for these left rows
 abbrev pub found : On → List Row → List Row → List Row

@@ -1,8 +1,7 @@
 -- the bounds of the whole work, from those of each node
 use Rattle.std.proofs.Common.{◌≡◌, ℕ, ◌+◌, ◌≤◌, length, ap, ◌∙◌, arith}
-use Rattle.pm_plan.specs.declared.gauge.Bound.{Bound}
-use Rattle.pm_plan.specs.Rows.{Db, table_rows}
-use Rattle.pm_plan.specs.Tree.{Tree, Scan, Over, Join, Index, Seek, Unary, Filter, Project, Sort, Group, right_number, sum_at}
+use Rattle.pm_plan.specs.Rows.{Db}
+use Rattle.pm_plan.specs.Tree.{Tree, Scan, Over, Join, Index, Seek, right_number, sum_at}
 use Rattle.pm_plan.specs.Outputs.{output, sought}
 use Rattle.pm_plan.proofs.Walks.{EachAt-map, sum_at-le, sum_at-same, sum_at-sum_in}
 use Rattle.pm_work.specs.Formulas.{exact}

@@ -1,11 +1,11 @@
 -- a lower and an upper bound of the rows of each operator, from the gauges of a moment
-use Rattle.std.specs.Prelude.{ℕ, ◌+◌, ◌-◌, Bool, true, false, if◌then◌else◌, List, [], ◌∷◌, ◌++◌, min, max}
+use Rattle.std.specs.Prelude.{ℕ, ◌+◌, ◌-◌, true, false, if◌then◌else◌, List, [], ◌∷◌, min, max}
 use Rattle.pm_plan.specs.declared.plan.Unique.{Unique}
 use Rattle.pm_plan.specs.declared.gauge.Gauge.{Gauge}
 use Rattle.pm_plan.specs.declared.gauge.Bound.{Bound}
 use Rattle.pm_plan.specs.declared.gauge.Whole.{Whole}
 use Rattle.pm_plan.specs.Rows.{Db}
-use Rattle.pm_plan.specs.Tree.{Unary, Filter, Project, Sort, Group, Method, Hash, Merge, Tree, Scan, Over, Join, Index, Seek, pads, right_number, sum_at, list_at}
+use Rattle.pm_plan.specs.Tree.{Unary, Filter, Project, Sort, Group, Method, Hash, Merge, Tree, Scan, Over, Join, Index, Seek, right_number, sum_at, list_at}
 use Rattle.pm_work.specs.Formulas.{Arithmetic, exact, Side, hi_over, hi_joined, seek_hi, index_hi}
 use Rattle.pm_work.specs.Moments.{Gauges, gauge_in, gauges_at}
 

@@ -1,6 +1,6 @@
 -- sums and products that stop at a greatest number, as they are computed
 use Rattle.std.specs.Prelude.{ℕ, ◌+◌, ◌≤◌, List, [], ◌∷◌, min, All}
-use Rattle.pm_plan.specs.Tree.{Tree, Seek, EachAt, list_in}
+use Rattle.pm_plan.specs.Tree.{Tree, EachAt, list_in}
 use Rattle.pm_work.specs.Formulas.{Arithmetic}
 use Rattle.pm_work.specs.Moments.{Gauges}
 use Rattle.pm_work.specs.First.{Sizes, first_hi, first_seek}

@@ -1,4 +1,6 @@
 pub mod Bounds
-pub mod Enclosure
 pub mod Capped
+pub mod Enclosure
+pub mod Moment
+pub mod Steps
 pub mod Worked

@@ -1,5 +1,5 @@
 -- parts of worked examples of bounds
-use Rattle.std.specs.Prelude.{ℕ, Bool, true, false, List, [], ◌∷◌, Option, None, Some, codes}
+use Rattle.std.specs.Prelude.{ℕ, Bool, true, false, List, [], ◌∷◌, None, Some, codes}
 use Rattle.pm_plan.specs.declared.gauge.Bound.{Bound}
 use Rattle.pm_plan.specs.declared.gauge.Whole.{Whole}
 use Rattle.pm_plan.specs.Rows.{Db}

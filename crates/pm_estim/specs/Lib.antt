@@ -1,3 +1,5 @@
 pub mod Pipelines
 pub mod Estimates
 pub mod Certified
+pub mod Lists
+pub mod Steps

@@ -1,3 +1,5 @@
 pub mod Stages
 pub mod OwnReferences
 pub mod Once
+pub mod Lexed
+pub mod SomeAnswer

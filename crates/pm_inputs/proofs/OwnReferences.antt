@@ -1,10 +1,10 @@
 -- The references of a table to itself call for one answer.
-use Rattle.std.proofs.Common.{◌≡◌, ◌≢◌, ◌∙◌, ◌<◌, ◌⊎◌, ◌+◌, ℕ, true, false, List, [], length, get_or, refl, sym, ap, subst, inl, inr, arith}
-use Rattle.std.specs.Prelude.{Result, Ok, Err}
+use Rattle.std.proofs.Common.{◌≡◌, ◌≢◌, ◌∙◌, ◌<◌, ◌⊎◌, ◌+◌, ℕ, List, [], refl, sym, ap, subst, inl, inr}
+use Rattle.std.specs.Prelude.{Result, Err}
 use Rattle.std.proofs.lemmas.Bool.{cases_order}
 use Rattle.pm_values.specs.declared.value.Value.{Value}
 use Rattle.pm_values.specs.declared.table.Reference.{Reference}
-use Rattle.pm_values.specs.References.{ReferenceHolds, has_target}
+use Rattle.pm_values.specs.References.{ReferenceHolds}
 use Rattle.pm_values.specs.Table.{Declaration, Relation}
 use Rattle.pm_tables.specs.declared.fault.DataBad.{DataBad}
 use Rattle.pm_tables.specs.declared.fault.DataBad.TheVariants as bad

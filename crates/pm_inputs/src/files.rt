@@ -73,9 +73,10 @@ pub fn load<F: Files>(alloc: Global, words: &[Txt], files: &mut F) -> Result<Tab
     }
 }
 
-/// The words and the bytes of the files call for one thing.
+/// The words and the bytes of the files call for one answer of `load`: for one table or for one refusal.
 pub fn calls_once()
-    ensures { (words : List (List ℕ)) (held : Held) (a b : Result Relation Refused) → Calls words held a → Calls words held b → a ≡ b }
+    ensures some { (words : List (List ℕ)) (held : Held) → (out : Result Relation Refused) × Calls words held out }
+    ensures one { (words : List (List ℕ)) (held : Held) (a b : Result Relation Refused) → Calls words held a → Calls words held b → a ≡ b }
 {}
 
 fn names_of(words: &[Txt]) -> Option<(&Txt, &Txt)>

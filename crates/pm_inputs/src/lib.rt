@@ -4,13 +4,13 @@
 //! specs/ says what they call for.
 #![tactic(auto)]
 
-pub mod chosen;
-pub mod files;
+mod chosen;
+mod files;
 mod references;
-pub mod refusal;
+mod refusal;
 #[cfg(test)]
 mod tests;
-pub mod texts;
+mod texts;
 
 pub use files::{calls_once, load};
 pub use refusal::{Refusal, Role};

@@ -1,14 +1,17 @@
 //! Tables loaded by one worker and by more, with ample memory, and two parts that are typed at once.
-ghost use Rattle.std.specs.Prelude.{◌≤◌, ◌^◌};
+ghost use Rattle.std.specs.Prelude.{◌≤◌};
 
 use crate::loading::load;
 use pm_tables::DataBad;
 use pm_values::{ColumnDecl, Gate, Items, Kind, OpenGate, References, Table, TableDecl, Txt};
 use std::alloc::{AllocError, Global};
+use std::marker::Sync;
 use std::sync::atomic::{AtomicU64, Ordering};
 use std::test::Fail;
+use std::thread::Threads;
 
 /// Counts the entries of two parts, and notes where one saw no entry of the other.
+#[derive(Drop)]
 struct Meeting {
     first: AtomicU64,
     second: AtomicU64,
@@ -69,43 +72,53 @@ fn answer(alloc: Global, loaded: Result<Table, DataBad>) -> Result<String, Alloc
     }
 }
 
+/// What so many workers answer to a sound file, to one with two faulty records, and to one with a record too many.
+fn answers<R: Threads + Sync>(rt: &R, alloc: Global, workers: u32) -> Result<String, AllocError>
+    requires some { 1 ≤ workers }
+    requires few { workers ≤ 64 }
+{
+    let sound = file(alloc, &[])?;
+    let faulty = file(alloc, &[3, 998])?;
+    let table = load(
+        rt,
+        alloc,
+        declared(alloc)?,
+        sound.as_bytes(),
+        workers,
+        1000,
+        &OpenGate,
+    );
+    let refused = load(
+        rt,
+        alloc,
+        declared(alloc)?,
+        faulty.as_bytes(),
+        workers,
+        1000,
+        &OpenGate,
+    );
+    let long = load(
+        rt,
+        alloc,
+        declared(alloc)?,
+        sound.as_bytes(),
+        workers,
+        999,
+        &OpenGate,
+    );
+    let table = answer(alloc, table)?;
+    let refused = answer(alloc, refused)?;
+    let long = answer(alloc, long)?;
+    format!(in alloc; "{table} {refused} {long}")
+}
+
 #[test]
 fn workers_load_the_same(rt: HostRuntime) -> Result<(), Fail> {
     let alloc = rt.alloc();
-    let sound = file(alloc, &[])?;
-    let faulty = file(alloc, &[3, 998])?;
-    for workers in [1u32, 2, 8, 64] {
-        let table = load(
-            &rt,
-            alloc,
-            declared(alloc)?,
-            sound.as_bytes(),
-            workers,
-            1000,
-            &OpenGate,
-        );
-        assert!(rt; answer(alloc, table)?.as_str() == "1000");
-        let refused = load(
-            &rt,
-            alloc,
-            declared(alloc)?,
-            faulty.as_bytes(),
-            workers,
-            1000,
-            &OpenGate,
-        );
-        assert!(rt; answer(alloc, refused)?.as_str() == "Field(3, 1)");
-        let long = load(
-            &rt,
-            alloc,
-            declared(alloc)?,
-            sound.as_bytes(),
-            workers,
-            999,
-            &OpenGate,
-        );
-        assert!(rt; answer(alloc, long)?.as_str() == "TooManyRows");
-    }
+    let expected = "1000 Field(3, 1) TooManyRows";
+    assert!(rt; answers(&rt, alloc, 1)?.as_str() == expected);
+    assert!(rt; answers(&rt, alloc, 2)?.as_str() == expected);
+    assert!(rt; answers(&rt, alloc, 64)?.as_str() == expected);
     Ok(())
 }
 
@@ -130,10 +143,5 @@ fn two_at_once(rt: HostRuntime) -> Result<(), Fail> {
     assert!(rt; answer(alloc, table)?.as_str() == "1000");
     assert!(rt; gate.first.load(Ordering::SeqCst) == 1 && gate.second.load(Ordering::SeqCst) == 1);
     assert!(rt; gate.missed.load(Ordering::SeqCst) == 0);
-    let Meeting {
-        first: _,
-        second: _,
-        missed: _,
-    } = gate;
     Ok(())
 }

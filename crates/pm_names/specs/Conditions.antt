@@ -10,6 +10,7 @@ use Rattle.pm_syntax.specs.declared.tree.Test.{Test, fold-Test}
 use Rattle.pm_syntax.specs.declared.tree.Test.TheOpen.{Test-F}
 use Rattle.pm_syntax.specs.declared.tree.Test.TheOpen as layer
 use Rattle.pm_values.specs.declared.value.Value.TheVariants as value
+use Rattle.pm_values.specs.declared.condition.Comparison.{Comparison}
 use Rattle.pm_values.specs.declared.condition.Comparison.TheVariants as comparison
 use Rattle.pm_values.specs.declared.condition.Operand.{Operand}
 use Rattle.pm_values.specs.declared.condition.Operand.TheVariants as operand
@@ -45,6 +46,16 @@ abbrev pub operand_of : List KnownColumn → RowShape → Atom → Operand
 operand_of known shape (atom.Expr e) = operand.Column (position_in shape (term_of known e)) (scale_of (term_kind known (term_of known e)))
 operand_of known shape (atom.Literal l) = literal_operand l
 
+abbrev pub compared_atoms : List KnownColumn → RowShape → Comparison → Atom → Atom → Cond
+compared_atoms known shape how left right = cond.Compare how (operand_of known shape left) (operand_of known shape right)
+
+abbrev pub equals_literal : List KnownColumn → RowShape → Atom → Literal → Cond
+equals_literal known shape of l = cond.Compare comparison.Equal (operand_of known shape of) (literal_operand l)
+
+-- both ends of a BETWEEN
+abbrev pub between_ends : List KnownColumn → RowShape → Atom → Atom → Atom → Cond
+between_ends known shape of low high = cond.All (compared_atoms known shape comparison.AtLeast of low ∷ compared_atoms known shape comparison.AtMost of high ∷ [])
+
 abbrev pub negated_if : Bool → Cond → Cond
 negated_if true c = cond.Not c
 negated_if false c = c
@@ -54,14 +65,11 @@ abbrev pub cond_layer : List KnownColumn → RowShape → Test-F Cond → Cond
 cond_layer known shape (layer.Any members) = cond.Any members
 cond_layer known shape (layer.All members) = cond.All members
 cond_layer known shape (layer.Not part) = cond.Not part
-cond_layer known shape (layer.Compare how left right at) = cond.Compare how (operand_of known shape left) (operand_of known shape right)
+cond_layer known shape (layer.Compare how left right at) = compared_atoms known shape how left right
 cond_layer known shape (layer.IsNull of negated) = negated_if negated (cond.IsNull (operand_of known shape of))
 cond_layer known shape (layer.OneOf of list negated at) =
-    negated_if negated (cond.Any (map (λ l. cond.Compare comparison.Equal (operand_of known shape of) (literal_operand l)) list))
-cond_layer known shape (layer.Between of low high negated at) =
-    negated_if negated (cond.All (
-    cond.Compare comparison.AtLeast (operand_of known shape of) (operand_of known shape low)
-    ∷ cond.Compare comparison.AtMost (operand_of known shape of) (operand_of known shape high) ∷ []))
+    negated_if negated (cond.Any (map (equals_literal known shape of) list))
+cond_layer known shape (layer.Between of low high negated at) = negated_if negated (between_ends known shape of low high)
 
 abbrev pub cond_of : List KnownColumn → RowShape → Test → Cond
 cond_of known shape = fold-Test Cond (cond_layer known shape)

@@ -1,14 +1,12 @@
 //! Conditions: whether their names mean columns and their kinds fit, and what they are with their names resolved.
-ghost use Rattle.std.specs.Prelude.{◌≡◌, ◌++◌, ◌≤◌, ◌<◌, ◌+◌, ◌^◌, length, map, [], ◌∷◌, nat_eq, IfOk, OnOk};
+ghost use Rattle.std.specs.Prelude.{◌≡◌, ◌++◌, ◌≤◌, ◌<◌, ◌+◌, ◌^◌, length, map, nat_eq, IfOk, OnOk};
 ghost use Rattle.std.specs.List.{flat_map, position, position_or_len};
-ghost use Rattle.pm_values.specs.declared.condition.Comparison.TheVariants as sign;
-ghost use Rattle.pm_values.specs.declared.condition.Cond.TheVariants as node;
 ghost use Rattle.pm_plan.specs.Kinds.{scale_of};
 ghost use Rattle.pm_query.specs.Bound.{same_aggregate};
 ghost use Rattle.pm_names.specs.Breaches.{verdict};
 ghost use Rattle.pm_names.specs.Names.{placed_term};
 ghost use Rattle.pm_names.specs.Kinds.{test_breaches};
-ghost use Rattle.pm_names.specs.Conditions.{whole_row, position_in, literal_operand, operand_of, negated_if, cond_of, atom_exprs, exprs_of};
+ghost use Rattle.pm_names.specs.Conditions.{whole_row, position_in, literal_operand, operand_of, compared_atoms, equals_literal, between_ends, negated_if, cond_of, atom_exprs, exprs_of};
 
 use crate::fault::BindBad;
 use crate::kinds::{check_atom, check_between, check_compare, check_one_of};
@@ -201,7 +199,7 @@ fn comparison(
 ) -> Result<Cond, AllocError>
     requires known { length known.now < 2 ^ 32 }
     requires shape { length shape.now.keys + length shape.now.calls < 2 ^ 32 }
-    ensures { IfOk result (λ made. made ≡ node.Compare how (operand_of known.now shape.now left.now) (operand_of known.now shape.now right.now)) }
+    ensures { IfOk result (λ made. made ≡ compared_atoms known.now shape.now how left.now right.now) }
 {
     let left = operand_of(alloc, known, shape, left)?;
     let right = operand_of(alloc, known, shape, right)?;
@@ -218,7 +216,7 @@ fn equals(
 ) -> Result<Cond, AllocError>
     requires known { length known.now < 2 ^ 32 }
     requires shape { length shape.now.keys + length shape.now.calls < 2 ^ 32 }
-    ensures { IfOk result (λ made. made ≡ node.Compare sign.Equal (operand_of known.now shape.now of.now) (literal_operand literal.now)) }
+    ensures { IfOk result (λ made. made ≡ equals_literal known.now shape.now of.now literal.now) }
 {
     let left = operand_of(alloc, known, shape, of)?;
     let right = literal_operand(alloc, literal)?;
@@ -236,7 +234,7 @@ fn one_of(
 ) -> Result<Conds, AllocError>
     requires known { length known.now < 2 ^ 32 }
     requires shape { length shape.now.keys + length shape.now.calls < 2 ^ 32 }
-    ensures { IfOk result (λ made. made ≡ map (λ l. node.Compare sign.Equal (operand_of known.now shape.now of.now) (literal_operand l)) literals.now) }
+    ensures { IfOk result (λ made. made ≡ map (equals_literal known.now shape.now of.now) literals.now) }
 {
     let mut conds = Conds::new(alloc);
     for literal in literals {
@@ -256,7 +254,7 @@ fn between(
 ) -> Result<Cond, AllocError>
     requires known { length known.now < 2 ^ 32 }
     requires shape { length shape.now.keys + length shape.now.calls < 2 ^ 32 }
-    ensures { IfOk result (λ made. made ≡ node.All (node.Compare sign.AtLeast (operand_of known.now shape.now of.now) (operand_of known.now shape.now low.now) ∷ node.Compare sign.AtMost (operand_of known.now shape.now of.now) (operand_of known.now shape.now high.now) ∷ [])) }
+    ensures { IfOk result (λ made. made ≡ between_ends known.now shape.now of.now low.now high.now) }
 {
     let mut ends = Conds::new(alloc);
     ends.push(comparison(alloc, known, shape, Comparison::AtLeast, of, low)?)?;

@@ -1,5 +1,5 @@
 //! Whether the names of a test's operands mean columns, and their kinds fit.
-ghost use Rattle.std.specs.Prelude.{◌≡◌, ◌++◌, ◌<◌, ◌^◌, length};
+ghost use Rattle.std.specs.Prelude.{◌≡◌, ◌<◌, ◌^◌, length};
 ghost use Rattle.std.specs.List.{flat_map};
 ghost use Rattle.pm_plan.specs.Kinds.{kinds_fit};
 ghost use Rattle.pm_names.specs.Breaches.{verdict};

@@ -11,9 +11,7 @@ mod names;
 mod sources;
 mod terms;
 
-pub use conditions::{
-    check_test, condition, position_in, push_terms, same_aggregate, whole_row,
-};
+pub use conditions::{check_test, condition, position_in, push_terms, same_aggregate, whole_row};
 pub use fault::BindBad;
 pub use names::{check_expr, check_name, column_of, expr_at, placed_term, term_of};
 pub use sources::{

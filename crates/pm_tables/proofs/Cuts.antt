@@ -6,13 +6,13 @@ use Rattle.csv.specs.Records.{Rising, field_at, last_end, prev}
 use Rattle.csv.proofs.RecordFacts.{rising-end, rising-first, rising-last, rising-shrink}
 use Rattle.pm_tables.specs.Records.{cut}
 
--- one record for each place
+-- one record for each position
 pub cut-length : (start : ℕ) (ends : List ℕ) (fields : List (List ℕ)) → length (cut start ends fields) ≡ length ends
 unfolding cut
 cut-length start [] fields = refl
 cut-length start (end ∷ ends) fields = ap suc (cut-length end ends fields)
 
--- the record at a place is the fields between its start and its end
+-- the record at a position is the fields between its start and its end
 pub cut-at : (start : ℕ) (ends : List ℕ) (fields : List (List ℕ)) (i : ℕ) → i < length ends
     → get_or (cut start ends fields) i [] ≡ take (get_or ends i 0 - prev start ends i) (drop (prev start ends i) fields)
 unfolding cut prev

@@ -168,11 +168,11 @@ number_le scale kept m whole ds low high zeros h =
 pub decimal_front : (scale kept m : ℕ) (whole ds : List ℕ) → IsDecimal scale whole ds m → AllDigits 10 (take kept ds)
 decimal_front scale kept m whole ds h = digits_front (take kept ds) (drop kept ds) (rw (take-append-drop kept ds) h.1.1)
 
--- a slice from a place on
+-- a slice from a position on
 pub slice_from : (i : ℕ) (ds : List ℕ) → take (length ds - i) (drop i ds) ≡ drop i ds
 slice_from i ds = rw (← length-drop i ds) (take-length (drop i ds))
 
--- what a test of the digits from a place on says
+-- what a test of the digits from a position on says
 pub zeros_told : (i : ℕ) (ds : List ℕ) (b : Bool) → (IsTrue b ↔ AreZeros (take (length ds - i) (drop i ds))) → b ≡ true → AreZeros (drop i ds)
 zeros_told i ds b told e = (rw (slice_from i ds) at told).0 e
 

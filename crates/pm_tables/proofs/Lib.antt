@@ -19,3 +19,4 @@ pub mod Decided
 pub mod SomeAnswer
 pub mod Streamed
 pub mod Rising
+pub mod TextRecords

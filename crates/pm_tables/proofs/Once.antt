@@ -21,7 +21,7 @@ get_take [] (suc n) i lt = refl
 get_take (x ∷ xs) (suc n) zero lt = refl
 get_take (x ∷ xs) (suc n) (suc i) lt = get_take xs n i (omega arith)
 
--- lists that agree up to a place differ at none before it
+-- lists that agree up to a position differ at none before it
 agree_before : (xs ys : List (List ℕ)) (i n : ℕ) → i < n → take n xs ≡ take n ys → slice_get xs i ≡ slice_get ys i
 agree_before xs ys i n lt same = sym (get_take xs n i lt) ∙ ap (λ zs. slice_get zs i) same ∙ get_take ys n i lt
 
@@ -38,7 +38,7 @@ differs_once xs ys i j h k = elim (cases_order i j) [
 abbrev FaultsAll : List ColumnDecl → ℕ → List (List (List ℕ)) → DataBad → Type 0
 FaultsAll columns most [] e = e ≡ bad.NoHeader
 FaultsAll columns most (header ∷ list) e =
-    ((place : ℕ) × (e ≡ bad.Header (place + 1)) × DiffersAt header (names_of columns) place)
+    ((position : ℕ) × (e ≡ bad.Header (position + 1)) × DiffersAt header (names_of columns) position)
     ⊎ ((e ≡ bad.TooManyRows) × (header ≡ names_of columns) × (most < length list))
 
 abbrev IsNotText : List ℕ → DataBad → Type 0

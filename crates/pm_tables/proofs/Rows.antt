@@ -60,9 +60,9 @@ range_more : (records : List (List (List ℕ))) (from at : ℕ) → from ≤ at 
 range_more records from at low high =
     let count : at + 1 - from ≡ suc (at - from) = omega arith in
     let within : at - from < length (drop from records) = omega (arith, length-drop from records) in
-    let place : from + (at - from) ≡ at = omega arith in
+    let position : from + (at - from) ≡ at = omega arith in
     rw count (take-suc (drop from records) (at - from) [] within
-    ∙ ap (λ f. take (at - from) (drop from records) ++ f ∷ []) (get_or-drop from records (at - from) [] ∙ ap (λ k. get_or records k []) place))
+    ∙ ap (λ f. take (at - from) (drop from records) ++ f ∷ []) (get_or-drop from records (at - from) [] ∙ ap (λ k. get_or records k []) position))
 
 pub rows_more : (columns : List ColumnDecl) (records : List (List (List ℕ))) (rows : List (List Value)) (from at : ℕ) (row : List Value)
     → WritesRows columns (slice_range records from at) rows → from ≤ at → at < length records → WritesRow columns (get_or records at []) row

@@ -103,7 +103,7 @@ abbrev IsWidth : List ColumnDecl → List (List ℕ) → ℕ → DataBad → Typ
 IsWidth columns fields r e = (e ≡ bad.Width r) × (length fields ≢ length columns)
 
 abbrev IsField : List ColumnDecl → List (List ℕ) → ℕ → DataBad → Type 0
-IsField columns fields r e = (place : ℕ) × (e ≡ bad.Field r (place + 1)) × (length fields ≡ length columns) × LacksFirst columns fields place
+IsField columns fields r e = (position : ℕ) × (e ≡ bad.Field r (position + 1)) × (length fields ≡ length columns) × LacksFirst columns fields position
 
 record_is : (columns : List ColumnDecl) (fields : List (List ℕ)) (r : ℕ) (e : DataBad) → e ≢ bad.Memory → FaultsRecord columns fields r e
     → IsWidth columns fields r e ⊎ IsField columns fields r e

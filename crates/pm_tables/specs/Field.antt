@@ -21,7 +21,7 @@ abbrev pub IsDecimal : ℕ → List ℕ → List ℕ → ℕ → Type 0
 IsDecimal scale whole decimals m = IsNumeral 10 whole × IsNumeral 10 decimals
     × (m * 10 ^ length decimals ≡ digits_value 10 (whole ++ decimals) * 10 ^ scale)
 
--- m is the number times 10^scale that these digits write, with a point at this place or without one
+-- m is the number times 10^scale that these digits write, with a point at this position or without one
 abbrev pub IsScaled : ℕ → List ℕ → Option ℕ → ℕ → Type 0
 IsScaled scale digits None m = IsNumeral 10 digits × (m ≡ digits_value 10 digits * 10 ^ scale)
 IsScaled scale digits (Some point) m = IsDecimal scale (take point digits) (drop (point + 1) digits) m

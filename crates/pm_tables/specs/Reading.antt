@@ -13,9 +13,9 @@ records_of bytes = records default_config (strip_bom bytes)
 abbrev pub names_of : List ColumnDecl → List (List ℕ)
 names_of columns = map (λ column. column.name) columns
 
--- place, from 0, is the first at which the lists differ, or at which one of them has ended
+-- position, from 0, is the first at which the lists differ, or at which one of them has ended
 abbrev pub DiffersAt : List (List ℕ) → List (List ℕ) → ℕ → Type 0
-DiffersAt xs ys place = (take place xs ≡ take place ys) × (slice_get xs place ≢ slice_get ys place)
+DiffersAt xs ys position = (take position xs ≡ take position ys) × (slice_get xs position ≢ slice_get ys position)
 
 -- a text whose first record is the list of column names, and the records that follow, at most so many
 abbrev pub IsList : List ColumnDecl → List ℕ → ℕ → List (List (List ℕ)) → Type 0
@@ -26,7 +26,7 @@ abbrev pub FaultsFile : List ColumnDecl → List ℕ → ℕ → DataBad → Typ
 FaultsFile columns bytes most (bad.NotText n) = ¬ (IsUtf8 bytes) × IsValidUpTo bytes n
 FaultsFile columns bytes most bad.NoHeader = IsUtf8 bytes × (records_of bytes ≡ [])
 FaultsFile columns bytes most (bad.Header c) = IsUtf8 bytes × (header : List (List ℕ)) × (list : List (List (List ℕ)))
-    × (records_of bytes ≡ header ∷ list) × (place : ℕ) × (c ≡ place + 1) × DiffersAt header (names_of columns) place
+    × (records_of bytes ≡ header ∷ list) × (position : ℕ) × (c ≡ position + 1) × DiffersAt header (names_of columns) position
 FaultsFile columns bytes most bad.TooManyRows = IsUtf8 bytes × (list : List (List (List ℕ)))
     × (records_of bytes ≡ names_of columns ∷ list) × (most < length list)
 FaultsFile columns bytes most bad.Memory = Unit {0}

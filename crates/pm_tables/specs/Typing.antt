@@ -22,18 +22,18 @@ WritesRows columns (fields ∷ records) (row ∷ rows) = WritesRow columns field
 WritesRows columns [] (row ∷ rows) = ⊥
 WritesRows columns (fields ∷ records) [] = ⊥
 
--- the field at this place, from 0, is the first that has no value
+-- the field at this position, from 0, is the first that has no value
 abbrev pub LacksFirst : List ColumnDecl → List (List ℕ) → ℕ → Type 0
-LacksFirst [] fields place = ⊥
-LacksFirst (column ∷ columns) [] place = ⊥
+LacksFirst [] fields position = ⊥
+LacksFirst (column ∷ columns) [] position = ⊥
 LacksFirst (column ∷ columns) (field ∷ fields) zero = HasNoValue column field
-LacksFirst (column ∷ columns) (field ∷ fields) (suc place) = (v : Value) × HasValue column field v × LacksFirst columns fields place
+LacksFirst (column ∷ columns) (field ∷ fields) (suc position) = (v : Value) × HasValue column field v × LacksFirst columns fields position
 
 -- why record number r writes no row
 abbrev pub FaultsRecord : List ColumnDecl → List (List ℕ) → ℕ → DataBad → Type 0
 FaultsRecord columns fields r (bad.Width at) = (at ≡ r) × (length fields ≢ length columns)
 FaultsRecord columns fields r (bad.Field at column) = (at ≡ r) × (length fields ≡ length columns)
-    × (place : ℕ) × (column ≡ place + 1) × LacksFirst columns fields place
+    × (position : ℕ) × (column ≡ position + 1) × LacksFirst columns fields position
 FaultsRecord columns fields r bad.Memory = Unit {0}
 FaultsRecord columns fields r bad.TooLong = ⊥
 FaultsRecord columns fields r (bad.NotText n) = ⊥
@@ -44,7 +44,7 @@ FaultsRecord columns fields r (bad.DoubleKey a b) = ⊥
 FaultsRecord columns fields r (bad.OutOfOrder at) = ⊥
 FaultsRecord columns fields r (bad.NoTarget at number) = ⊥
 
--- want of memory, or the fault of the first of the records from one place up to another that writes no row
+-- want of memory, or the fault of the first of the records from one position up to another that writes no row
 abbrev pub FaultsFirst : List ColumnDecl → List (List (List ℕ)) → ℕ → ℕ → DataBad → Type 0
 FaultsFirst columns records from to e = (e ≡ bad.Memory) ⊎ ((at : ℕ) × (from ≤ at) × (at < to)
     × ((rows : List (List Value)) × WritesRows columns (slice_range records from at) rows)

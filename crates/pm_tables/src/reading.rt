@@ -1,14 +1,14 @@
 //! The records of a CSV file under its header.
-ghost use Rattle.std.specs.Prelude.{◌≡◌, ◌≤◌, ◌<◌, ◌⊎◌, IsUtf8, ◌++◌, ◌∷◌, ℕ, List, [], IfErr, IfOk, IsTrue, Some, ◌↔◌, slice_get, MatchOption, OnOk, length};
-ghost use Rattle.csv.specs.Reading.{default_config, records, strip_bom};
+ghost use Rattle.std.specs.Prelude.{◌≡◌, ◌≤◌, ◌<◌, ◌⊎◌, IsUtf8, ◌++◌, ◌∷◌, ℕ, List, [], IfErr, IfOk, IsTrue, Some, ◌↔◌, slice_get, MatchOption, OnOk, length, true};
+ghost use Rattle.csv.specs.Reading.{default_config, error_kind, records, strip_bom};
 ghost use Rattle.csv.specs.Records.{fields_of};
-ghost use Rattle.pm_tables.specs.HasRead.{Continues, EndsTooLate, HasMore, HasRead};
+ghost use Rattle.pm_tables.specs.HasRead.{Continues, EndsTooLate, HasMore, HasRead, IsReadFailure, ReadsText};
 ghost use Rattle.pm_tables.specs.Reading.{DiffersAt, FaultsFile, IsList, names_of};
 ghost use Rattle.pm_tables.specs.declared.fault.DataBad.TheVariants.{Memory, TooManyRows};
 
 use crate::fault::DataBad;
 use crate::record_list::Records;
-use csv::{Reader, ReaderBuilder, StringRecord};
+use csv::{ErrorKind, Reader, ReaderBuilder, StringRecord};
 use pm_values::{ColumnDecl, TableDecl};
 use std::alloc::{AllocError, Global};
 
@@ -38,6 +38,7 @@ pub(crate) fn read_header(
     requires narrow { length columns.now ≤ 64 }
     requires start { HasRead (strip_bom bytes.now) [] reader.old }
     ensures text { OnOk result (IsUtf8 bytes.now) }
+    ensures goes_on { OnOk result (ReadsText reader.new) }
     ensures read { OnOk result (HasRead (strip_bom bytes.now) (names_of columns.now ∷ []) reader.new) }
     ensures refused { (most : ℕ) → IfErr result (FaultsFile columns.now bytes.now most) }
 {
@@ -48,20 +49,20 @@ pub(crate) fn read_header(
         return Err(DataBad::NoHeader);
     }
     match first_difference(current, columns) {
-        Some(place) => Err(DataBad::Header(place + 1)),
+        Some(position) => Err(DataBad::Header(position + 1)),
         None => Ok(()),
     }
 }
 
-/// The place, from 0, of the first column whose name is not the field there, or at which only one of both has ended.
+/// The position, from 0, of the first column whose name is not the field there, or at which only one of both has ended.
 fn first_difference(header: &StringRecord, columns: &[ColumnDecl]) -> Option<u32>
     requires { length columns.now ≤ 64 }
     ensures { MatchOption result (fields_of header.now ≡ names_of columns.now)
-        (λ place. (place ≤ 64) × DiffersAt (fields_of header.now) (names_of columns.now) place) }
+        (λ position. (position ≤ 64) × DiffersAt (fields_of header.now) (names_of columns.now) position) }
 {
-    for (place, column) in columns.iter().enumerate() {
-        if !has_field(header, place, column.name.as_str()) {
-            return Some(place as u32);
+    for (position, column) in columns.iter().enumerate() {
+        if !has_field(header, position, column.name.as_str()) {
+            return Some(position as u32);
         }
     }
     if header.len() == columns.len() {
@@ -71,10 +72,10 @@ fn first_difference(header: &StringRecord, columns: &[ColumnDecl]) -> Option<u32
     }
 }
 
-fn has_field(header: &StringRecord, place: usize, text: &str) -> bool
-    ensures { IsTrue result ↔ (slice_get (fields_of header.now) place ≡ Some text.now) }
+fn has_field(header: &StringRecord, position: usize, text: &str) -> bool
+    ensures { IsTrue result ↔ (slice_get (fields_of header.now) position ≡ Some text.now) }
 {
-    match header.get(place) {
+    match header.get(position) {
         Some(field) => field == text,
         None => false,
     }
@@ -87,6 +88,7 @@ fn collect_records(
     current: &mut StringRecord,
     most: u32,
 ) -> Result<Records, DataBad>
+    requires { ReadsText reader.old }
     ensures listed { (text : List ℕ) (header : List (List ℕ)) → HasRead text (header ∷ []) reader.old
         → IfOk result (λ list. (records default_config text ≡ header ∷ list) × (length list ≤ most)) }
     ensures refused { (text : List ℕ) (header : List (List ℕ)) → HasRead text (header ∷ []) reader.old → IfErr result (EndsTooLate text header most) }
@@ -109,8 +111,8 @@ fn collect_records(
 fn push_fields(fields: &mut StringRecord, added: &StringRecord) -> Result<(), AllocError>
     ensures { OnOk result (fields_of fields.new ≡ fields_of fields.old ++ fields_of added.now) }
 {
-    for place in 0..added.len() {
-        if let Some(field) = added.get(place) {
+    for position in 0..added.len() {
+        if let Some(field) = added.get(position) {
             fields.push_field(field)?;
         }
     }
@@ -123,6 +125,7 @@ pub(crate) fn check_record_limit(
     current: &mut StringRecord,
     most: u32,
 ) -> Result<(), DataBad>
+    requires { ReadsText reader.old }
     ensures ended { (text : List ℕ) (rows : List (List (List ℕ))) → HasRead text rows reader.old → OnOk result (HasMore text rows (λ count. count ≤ most)) }
     ensures refused { (text : List ℕ) (rows : List (List (List ℕ))) → HasRead text rows reader.old
         → IfErr result (λ e. (e ≡ Memory) ⊎ ((e ≡ TooManyRows) × HasMore text rows (λ count. most < count))) }
@@ -150,9 +153,24 @@ pub(crate) fn open(alloc: Global, bytes: &[u8]) -> Reader<&[u8]>
 
 /// Whether there is a next record, which is put into `current`.
 pub(crate) fn next(reader: &mut Reader<&[u8]>, current: &mut StringRecord) -> Result<bool, DataBad>
+    requires { ReadsText reader.old }
     ensures found { (text : List ℕ) (rows : List (List (List ℕ))) → HasRead text rows reader.old → IfOk result (λ found. Continues text rows reader.new found (fields_of current.new)) }
+    ensures text { IfOk result (λ found. found ≡ true → ReadsText reader.new) }
     ensures refused { IfErr result (λ e. e ≡ Memory) }
 {
-    // Records of text may have any lengths, so a read of bytes in memory fails only for want of memory.
-    reader.read_record(current).map_err(|_| DataBad::Memory)
+    match reader.read_record(current) {
+        Ok(found) => Ok(found),
+        Err(error) => Err(failed(error)),
+    }
+}
+
+/// The answer to a failed read of records of text, which may have any lengths. Bytes in memory can always be had.
+fn failed(error: csv::Error) -> DataBad
+    requires { IsReadFailure (error_kind error) }
+    ensures { result ≡ Memory }
+{
+    match error.into_kind() {
+        ErrorKind::Io(_) | ErrorKind::OutOfMemory => DataBad::Memory,
+        _ => unreachable!(),
+    }
 }

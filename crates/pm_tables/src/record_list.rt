@@ -28,7 +28,7 @@ impl Model for Records {
 }
 
 impl Records {
-    /// The records that end at these places of the fields.
+    /// The records that end at these positions of the fields.
     pub(crate) fn new(fields: StringRecord, ends: Vec<usize>) -> Records
         requires rising { Rising 0 ends.items (length (fields_of fields)) }
         requires few { length ends.items < 2 ^ 32 }
@@ -51,8 +51,8 @@ impl Records {
         self.ends.is_empty()
     }
 
-    /// The list of all fields, and where those of the record at this place, from 0, begin and end in it.
-    pub(crate) fn place(&self, at: u32) -> (&StringRecord, usize, usize)
+    /// The list of all fields, and where those of the record at this position, from 0, begin and end in it.
+    pub(crate) fn bounds_of(&self, at: u32) -> (&StringRecord, usize, usize)
         requires { at < length self.now }
         ensures order { result.1 ≤ result.2 }
         ensures within { result.2 ≤ length (fields_of result.0.now) }
@@ -63,7 +63,7 @@ impl Records {
     }
 }
 
-/// Where the record at this place begins and ends in the list of all fields.
+/// Where the record at this position begins and ends in the list of all fields.
 fn bounds(ends: &[usize], at: usize) -> (usize, usize)
     requires { at < length ends.now }
     ensures start { result.0 ≡ prev 0 ends.now at }

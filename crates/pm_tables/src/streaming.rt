@@ -2,7 +2,7 @@
 ghost use Rattle.std.specs.Prelude.{◌≡◌, ◌≤◌, ◌∷◌, ℕ, List, [], All, IfErr, IfOk, MatchResult, length};
 ghost use Rattle.csv.specs.Records.{fields_of};
 ghost use Rattle.pm_values.specs.Table.{HasValidKind};
-ghost use Rattle.pm_tables.specs.HasRead.{HasRead};
+ghost use Rattle.pm_tables.specs.HasRead.{HasRead, ReadsText};
 ghost use Rattle.pm_tables.specs.Loading.{FaultsBehind, WritesBehind};
 ghost use Rattle.pm_tables.specs.Typing.{FaultsRecord, WritesRow};
 
@@ -23,6 +23,7 @@ pub(crate) fn type_all(
 ) -> Result<Rows, DataBad>
     requires narrow { length columns.now ≤ 64 }
     requires scales { All HasValidKind columns.now }
+    requires text { ReadsText reader.old }
     ensures typed { (text : List ℕ) (header : List (List ℕ)) → HasRead text (header ∷ []) reader.old → IfOk result (WritesBehind columns.now text header most) }
     ensures refused { (text : List ℕ) (header : List (List ℕ)) → HasRead text (header ∷ []) reader.old → IfErr result (FaultsBehind columns.now text header most) }
 {

@@ -34,7 +34,7 @@ pub fn finish(alloc: Global, decl: TableDecl, rows: Rows) -> Result<Table, DataB
     Ok(Table::new(decl, rows))
 }
 
-/// The place, from 0, of the first row that is above the next one by these columns.
+/// The position, from 0, of the first row that is above the next one by these columns.
 fn first_fall(rows: &[Row], columns: &[u32]) -> Option<u32>
     requires { length rows.now ≤ 2 ^ 24 }
     ensures { MatchOption result (Ascends columns.now rows.now) (FallsFirst columns.now rows.now) }

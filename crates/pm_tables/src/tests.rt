@@ -9,7 +9,8 @@ use crate::record_list::Records;
 use crate::references::check_reference;
 use crate::typing::type_rows;
 use pm_values::{
-    ColumnDecl, ColumnDecls, Columns, Kind, Reference, References, Table, TableDecl, Txt, Value,
+    ColumnDecl, ColumnDecls, Columns, Comparison, Cond, Kind, Operand, Reference, References, Row,
+    Table, TableDecl, Txt, Value, copy_row,
 };
 use std::alloc::{AllocError, Global};
 use std::test::Fail;
@@ -157,7 +158,7 @@ fn files_with_a_key(rt: HostRuntime) -> Result<(), Fail> {
     Ok(())
 }
 
-// The values of the records from one place up to another.
+// The values of the records from one position up to another.
 fn typed(alloc: Global, decl: &TableDecl, list: &Records, from: u32) -> Result<String, AllocError> {
     let to = list.len();
     if from > to {
@@ -270,6 +271,37 @@ fn references_of_a_table_to_itself(rt: HostRuntime) -> Result<(), Fail> {
             "{last}"
         );
     }
+    Ok(())
+}
+
+// A row and a condition with each kind of value, and their copies, as they are written.
+fn copied(alloc: Global) -> Result<(String, String), AllocError> {
+    let mut row = Row::new(alloc);
+    row.push(Value::Null)?;
+    row.push(Value::Int(-7))?;
+    row.push(Value::Text(Txt::new(alloc, "seven")?))?;
+    let cond = Cond::Compare {
+        how: Comparison::AtMost,
+        left: Operand::Column { at: 1, scale: 2 },
+        right: Operand::Literal {
+            value: Value::Text(Txt::new(alloc, "x")?),
+            scale: 0,
+        },
+    };
+    let decl = referring(alloc)?;
+    let (other_row, other_cond) = (copy_row(alloc, &row)?, cond.copy(alloc)?);
+    let other_decl = decl.copy(alloc)?;
+    Ok((
+        format!(in alloc; "{row:?} {cond:?} {decl:?}")?,
+        format!(in alloc; "{other_row:?} {other_cond:?} {other_decl:?}")?,
+    ))
+}
+
+#[test]
+fn copies_are_equal(rt: HostRuntime) -> Result<(), Fail> {
+    let (original, copy) = copied(rt.alloc())?;
+    assert_eq!(rt; copy.as_str(), original.as_str());
+    assert!(rt; copy.len() > 100);
     Ok(())
 }
 

@@ -11,7 +11,7 @@ use csv::StringRecord;
 use pm_values::{ColumnDecl, Row, Rows, TableDecl};
 use std::alloc::Global;
 
-/// The rows of the records from one place, from 0, up to below another.
+/// The rows of the records from one position, from 0, up to below another.
 ///
 /// The first of these records that writes no row is refused: by [`DataBad::Width`] where it has not one field per
 /// column, and else by [`DataBad::Field`] with its first field that has no value in its column.
@@ -32,13 +32,13 @@ pub fn type_rows(
     let columns = decl.columns().as_slice();
     let mut rows = Rows::new(alloc);
     for at in from..to {
-        let (fields, start, end) = list.place(at);
+        let (fields, start, end) = list.bounds_of(at);
         rows.push(type_row(alloc, columns, fields, start, end, at + 1)?)?;
     }
     Ok(rows)
 }
 
-/// The row that these fields, from one place of a list up to below another, write as the record of this number.
+/// The row that these fields, from one position of a list up to below another, write as the record of this number.
 pub(crate) fn type_row(
     alloc: Global,
     columns: &[ColumnDecl],
@@ -58,10 +58,10 @@ pub(crate) fn type_row(
         return Err(DataBad::Width(number));
     }
     let mut values = Vec::with_capacity(alloc, columns.len())?;
-    for (place, column) in columns.iter().enumerate() {
-        match field_value(alloc, column, field_at(fields, start + place))? {
+    for (position, column) in columns.iter().enumerate() {
+        match field_value(alloc, column, field_at(fields, start + position))? {
             Some(value) => values.push(value)?,
-            None => return Err(DataBad::Field(number, place as u32 + 1)),
+            None => return Err(DataBad::Field(number, position as u32 + 1)),
         }
     }
     Ok(Row::from_vec(values))

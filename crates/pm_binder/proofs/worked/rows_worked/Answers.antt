@@ -9,9 +9,10 @@ use Rattle.pm_syntax.specs.Terminals.{func_named}
 use Rattle.pm_syntax.specs.Reading.{column_after, column_at, call_after, expr_after, expr_at, literal_at, term_at, operand_at, literals_at, compare_after, null_after, in_after, between_after, range_after, test_after, test_at, ands_at, cond_at, part_peek, part_at, condition_at, given_at, item_at, items_at, link_at, join_condition_at, on_at, source_at, sources_at, where_at, having_at, groups_at, direction_at, key_at, orders_at, select_at}
 use Rattle.pm_canonical.specs.Canon.{canon_expr, canon_column}
 use Rattle.pm_canonical.proofs.Folds.{fold_all, fold_compare, fold_null, fold_one_of, fold_between}
-use Rattle.pm_values.specs.declared.value.Value.TheVariants.{Null, Text}
+use Rattle.pm_values.specs.declared.value.Value.TheVariants.{Text}
 use Rattle.pm_plan.specs.Worked.{number, shop}
 use Rattle.pm_names.specs.Names.{name_breaches}
+use Rattle.pm_binder.specs.Worked.{customers_with_amounts}
 use Rattle.pm_binder.proofs.Texts.{lexed, select_of, asks_for}
 use Rattle.pm_binder.proofs.worked.rows_worked.Goals as goal
 
@@ -21,7 +22,7 @@ returns-clause-joined c = asks_for (codes "SELECT c.name, o.amt FROM ord o JOIN 
 
 pub returns-clause-left : goal.returns-clause-left
 unfolding tokens_of tokens_after head_of word_at number_at named_at sign_at quotation single_quotes reserved_word canonical_sign symbol_of same_symbol list_at more_at func_named name_at column_after column_at call_after expr_after expr_at literal_at term_at operand_at literals_at compare_after null_after in_after between_after range_after test_after test_at ands_at cond_at part_peek part_at condition_at given_at item_at items_at link_at join_condition_at on_at source_at sources_at where_at having_at groups_at direction_at key_at orders_at select_at lexed select_of name_breaches canon_expr canon_column
-returns-clause-left c = asks_for (codes "SELECT c.name, o.amt FROM cust c LEFT JOIN ord o ON o.cust = c.id") shop ((Text (codes "Ann") ∷ number 5 ∷ []) ∷ (Text (codes "Ann") ∷ number 7 ∷ []) ∷ (Text (codes "Bob") ∷ Null ∷ []) ∷ (Text (codes "Cy") ∷ number 9 ∷ []) ∷ []) refl refl (simp fold_compare)
+returns-clause-left c = asks_for (codes "SELECT c.name, o.amt FROM cust c LEFT JOIN ord o ON o.cust = c.id") shop customers_with_amounts refl refl (simp fold_compare)
 
 pub returns-clause-unmatched : goal.returns-clause-unmatched
 unfolding tokens_of tokens_after head_of word_at number_at named_at sign_at quotation single_quotes reserved_word canonical_sign symbol_of same_symbol list_at more_at func_named name_at column_after column_at call_after expr_after expr_at literal_at term_at operand_at literals_at compare_after null_after in_after between_after range_after test_after test_at ands_at cond_at part_peek part_at condition_at given_at item_at items_at link_at join_condition_at on_at source_at sources_at where_at having_at groups_at direction_at key_at orders_at select_at lexed select_of name_breaches canon_expr canon_column

@@ -14,6 +14,7 @@ loop-init c = let e = c.new-ends.ensures.items in let f = c.new-fields.ensures.f
   rising = rw (e, f) (omega arith);
   whole = rw (e, f) refl;
   count = rw e refl;
+  text = c.requires;
   read = λ text header h. rw e h;
 }
 
@@ -36,6 +37,7 @@ loop-preserved c =
       rising = rw (items, c.in_ok-push_fields.ensures) (rising_push ends fields taken c.loop.invariant.rising);
       whole = rw (items, c.in_ok-push_fields.ensures) (last-append 0 ends (length (fields ++ taken)));
       count = rw items (omega (arith, length-append ends (length (fields ++ taken) ∷ []), c.loop.invariant.count));
+      text = c.in_ok-next.ensures.text c.if-not-branch.false;
       read = λ text header h.
           let go : HasRead text (header ∷ (cut 0 ends fields ++ taken ∷ [])) c.next.new.reader
           = rw c.if-not-branch.false at (c.in_ok-next.ensures.found text (header ∷ cut 0 ends fields) (c.loop.invariant.read text header h)) in

@@ -9,6 +9,7 @@ returns c =
     let set = rw (c.flexible.ensures, c.has_headers.ensures) at made in
     record {
       untrimmed = set.trim ∙ c.new.ensures.trim;
+      flexible = set.flexible;
       ready = inr (inr (set.has_headers, set.headers));
       config = set.config ∙ c.new.ensures.config;
       rest = strip_bom c.args.bytes.now;

@@ -16,30 +16,30 @@ returns-in-None c =
     let fields = slice_range all c.args.start c.args.end in
     let size = range_length all c.args.start c.args.end c.requires.within in
     let width : length fields ≡ length c.args.columns.now = omega (arith, size) in
-    let here = range_at all c.args.start c.args.end c.loop-place.place (omega arith) in
-    let none : HasNoValue c.index-columns-place.result c.field_at.result.now = rw c.in-None.is at c.in_ok-value.ensures in (
+    let here = range_at all c.args.start c.args.end c.loop-position.position (omega arith) in
+    let none : HasNoValue c.index-columns-position.result c.field_at.result.now = rw c.in-None.is at c.in_ok-value.ensures in (
       refl,
       width,
-      c.loop-place.place,
+      c.loop-position.position,
       refl,
-      lacks_here c.args.columns.now fields c.loop-place.values.items c.loop-place.place c.index-columns-place.result
-          c.loop-place.invariant c.loop-place-test.true (omega (arith, width)) c.index-columns-place.is (rw (here, ← c.field_at.ensures) none),
+      lacks_here c.args.columns.now fields c.loop-position.values.items c.loop-position.position c.index-columns-position.result
+          c.loop-position.invariant c.loop-position-test.true (omega (arith, width)) c.index-columns-position.is (rw (here, ← c.field_at.ensures) none),
     )
 
-pub loop-place-preserved : goal.loop-place-preserved
-loop-place-preserved c =
+pub loop-position-preserved : goal.loop-position-preserved
+loop-position-preserved c =
     let all = fields_of c.args.fields.now in
     let fields = slice_range all c.args.start c.args.end in
     let size = range_length all c.args.start c.args.end c.requires.within in
     let width : length fields ≡ length c.args.columns.now = omega (arith, size) in
-    let here = range_at all c.args.start c.args.end c.loop-place.place (omega arith) in
-    let has : HasValue c.index-columns-place.result c.field_at.result.now c.in-Some.value = rw c.in-Some.is at c.in_ok-value.ensures in
-    rw c.in_ok-push-in-Some.ensures.items (writes_more c.args.columns.now fields c.loop-place.values.items c.loop-place.place c.index-columns-place.result c.in-Some.value
-    c.loop-place.invariant c.loop-place-test.true (omega (arith, width)) c.index-columns-place.is (rw (here, ← c.field_at.ensures) has))
+    let here = range_at all c.args.start c.args.end c.loop-position.position (omega arith) in
+    let has : HasValue c.index-columns-position.result c.field_at.result.now c.in-Some.value = rw c.in-Some.is at c.in_ok-value.ensures in
+    rw c.in_ok-push-in-Some.ensures.items (writes_more c.args.columns.now fields c.loop-position.values.items c.loop-position.position c.index-columns-position.result c.in-Some.value
+    c.loop-position.invariant c.loop-position-test.true (omega (arith, width)) c.index-columns-position.is (rw (here, ← c.field_at.ensures) has))
 
 pub returns : goal.returns
 returns c =
     let all = fields_of c.args.fields.now in
     let fields = slice_range all c.args.start c.args.end in
     let size = range_length all c.args.start c.args.end c.requires.within in
-    rw c.from_vec.ensures (writes_all c.args.columns.now fields c.loop-place.values.items c.loop-place.place (omega arith) (omega (arith, size)) c.loop-place.invariant)
+    rw c.from_vec.ensures (writes_all c.args.columns.now fields c.loop-position.values.items c.loop-position.position (omega arith) (omega (arith, size)) c.loop-position.invariant)

@@ -7,7 +7,7 @@ use Rattle.pm_tables.proofs.typing.type_rows.Goals as goal
 
 pub loop-at-preserved : goal.loop-at-preserved
 loop-at-preserved c =
-    let row : WritesRow c.args.decl.now.columns (get_or c.args.list.now c.loop-at.at []) c.in_ok-type_row.field-0 = rw (← c.columns.ensures.value, ← c.as_slice-columns.ensures, ← c.place-start.ensures.here) c.in_ok-type_row.ensures in
+    let row : WritesRow c.args.decl.now.columns (get_or c.args.list.now c.loop-at.at []) c.in_ok-type_row.field-0 = rw (← c.columns.ensures.value, ← c.as_slice-columns.ensures, ← c.bounds_of-start.ensures.here) c.in_ok-type_row.ensures in
     let low : c.args.from ≤ c.loop-at.at = c.loop-at.auto.at in
     let high : c.loop-at.at < length c.args.list.now = omega arith in
     rw c.in_ok-push.ensures.ok (rows_more c.args.decl.now.columns c.args.list.now c.loop-at.rows c.args.from c.loop-at.at c.in_ok-type_row.field-0

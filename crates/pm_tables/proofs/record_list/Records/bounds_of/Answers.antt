@@ -2,7 +2,7 @@ use Rattle.std.proofs.Common.{length, sym}
 use Rattle.csv.specs.Records.{fields_of}
 use Rattle.csv.proofs.RecordFacts.{field-bounds}
 use Rattle.pm_tables.proofs.Cuts.{cut-at, cut-length}
-use Rattle.pm_tables.proofs.record_list.Records.place.Goals as goal
+use Rattle.pm_tables.proofs.record_list.Records.bounds_of.Goals as goal
 
 pub bounds-start-requires : goal.bounds-start-requires
 bounds-start-requires c = rw (c.as_slice.ensures.value) (rw (← c.self.view_is, cut-length 0 c.self.inside.ends.items (fields_of c.self.inside.fields)) at c.requires)
