@@ -4,6 +4,7 @@ use Rattle.std.specs.Prelude.{IsSomeAnd}
 use Rattle.pm_io.specs.Files.{Held}
 use Rattle.pm_values.specs.Table.{Declaration, Relation}
 use Rattle.pm_syntax.specs.declared.tree.Select.{Select}
+use Rattle.pm_tables.specs.declared.fault.DataBad.TheVariants as bad
 use Rattle.pm_tables.specs.Loading.{Answer, Rows, Refused}
 use Rattle.pm_plan.specs.Rows.{Db, decls_of}
 use Rattle.pm_query.specs.declared.query.Query.{Query}
@@ -14,11 +15,12 @@ use Rattle.pm_binder.specs.Laws.{IsFormed}
 use Rattle.pm_binder.specs.Meaning.{select_rows}
 use Rattle.pm_binder.proofs.RowLaw.{rows_are_answers}
 use Rattle.pm_requests.specs.declared.refusal.Role.{Role}
+use Rattle.pm_requests.specs.declared.refusal.Role.TheVariants as role
 use Rattle.pm_requests.specs.declared.refusal.Refusal.{Refusal}
 use Rattle.pm_requests.specs.declared.refusal.Refusal.TheVariants as refusal
 use Rattle.pm_requests.specs.declared.request.Request.{Request}
 use Rattle.pm_requests.specs.Texts.{GoesOn, Then, SelectText}
-use Rattle.pm_requests.specs.Files.{FileGives, SchemaFile, QueryFile, Binds, TableFile, answered}
+use Rattle.pm_requests.specs.Files.{FileGives, Refusing, too_long, text_limit, table_limit, SchemaFile, QueryFile, Binds, TableGives, TableFile, answered}
 use Rattle.pm_requests.specs.Tables.{AreLoaded, TablesGive}
 use Rattle.pm_requests.specs.References.{Completes}
 use Rattle.pm_requests.specs.Calls.{Asks, Calls}
@@ -42,7 +44,7 @@ relation_decl table (Rows rows) relation is = let same : relation ≡ record { d
 relation_decl table (Refused e) relation is = absurd (cc is)
 
 file_decl : (held : Held) (table : QueryTable) (relation : Relation) → TableFile held table (Ok relation) → relation.decl ≡ table.decl
-file_decl held table relation h = let given = given_by _ _ _ _ _ _ relation h in relation_decl table given.2.0 relation given.2.2
+file_decl held table relation h = let given = given_by (held table.decl.file) (role.Table table.place) table.decl.file table_limit (refusal.Table table.place table.decl.name bad.TooLong) (TableGives table) relation h in relation_decl table given.2.0 relation given.2.2
 
 loaded_decls : (held : Held) (tables : List QueryTable) (db : List Relation) → AreLoaded held tables db → decls_of db ≡ map (λ table. table.decl) tables
 loaded_decls held [] [] h = refl
@@ -63,7 +65,7 @@ completed query db request (inr h) = absurd (cc h.2)
 
 formed_of : (held : Held) (name : List ℕ) (select : Select) → QueryFile held name (Ok select) → IsFormed select
 formed_of held name select h =
-    let given = given_by _ _ _ _ _ _ select h in
+    let given = given_by (held name) role.Query name text_limit (refusal.Query too_long) (λ bytes. Refusing refusal.Query (SelectText bytes)) select h in
     let (found, said, is) = given.2 in
     select_formed given.0 select (subst (SelectText given.0) (refused_ok refusal.Query found select is) said)
 

@@ -23,6 +23,7 @@ use Rattle.pm_plan.specs.Kinds.{columns_or_none}
 use Rattle.pm_query.specs.declared.query.Query.{Query}
 use Rattle.pm_query.specs.declared.query.QueryTable.{QueryTable}
 use Rattle.pm_names.specs.declared.terms.KnownColumn.{KnownColumn}
+use Rattle.pm_names.specs.declared.terms.PlacedTerm.{PlacedTerm}
 use Rattle.pm_names.specs.Conditions.{position_in}
 use Rattle.pm_names.specs.Sources.{alias_of, is_named, known_column, known_columns, source_columns, table_if, table_places, tables_at}
 use Rattle.pm_binder.specs.Bound.{bound, resolved}
@@ -86,15 +87,15 @@ select_formed bytes select h = let read = select_text bytes select h in readings
 
 -- ---- limits
 
-table_there : {P : Declaration → Type 0} (schema : List Declaration) → All P schema → (place : ℕ) (found : Option Declaration) → slice_get schema place ≡ found → All (λ (t : QueryTable). P t.decl) (table_if place found)
-table_there {P} schema each place None is = All-nil (λ (t : QueryTable). P t.decl)
-table_there {P} schema each place (Some decl) is =
+table_there : (P : Declaration → Type 0) (schema : List Declaration) → All P schema → (place : ℕ) (found : Option Declaration) → slice_get schema place ≡ found → All (λ (t : QueryTable). P t.decl) (table_if place found)
+table_there P schema each place None is = All-nil (λ (t : QueryTable). P t.decl)
+table_there P schema each place (Some decl) is =
     All-cons (λ (t : QueryTable). P t.decl) (record { place = place; decl = decl }) [] (subst P (get_or_from_slice_get schema place decl decl is) (each place decl (slice_get_within schema place decl is))) (All-nil (λ (t : QueryTable). P t.decl))
 
 tables_there : (P : Declaration → Type 0) (schema : List Declaration) → All P schema → (places : List ℕ) → All (λ (t : QueryTable). P t.decl) (tables_at schema places)
 tables_there P schema each [] = All-nil (λ (t : QueryTable). P t.decl)
 tables_there P schema each (place ∷ places) =
-    All-append (λ (t : QueryTable). P t.decl) (table_if place (slice_get schema place)) (tables_at schema places) (table_there {P = P} schema each place (slice_get schema place) refl) (tables_there P schema each places)
+    All-append (λ (t : QueryTable). P t.decl) (table_if place (slice_get schema place)) (tables_at schema places) (table_there P schema each place (slice_get schema place) refl) (tables_there P schema each places)
 
 columns_few : (schema : List Declaration) → All IsWithin schema → (found : Option Declaration) (place : ℕ) → slice_get schema place ≡ found → length (columns_or_none found) ≤ 64
 columns_few schema within None place is = omega arith
@@ -115,8 +116,8 @@ known_few schema within (source ∷ sources) =
     rw (length-append (source_columns schema source) (known_columns schema sources)) (omega arith)
 
 terms_few : (known : List KnownColumn) (selected : Items) → length known ≤ 512 → ValidItems selected → length (item_terms known selected) ≤ 512
-terms_few known (items.All at) few valid = rw (length-map-range_with_len _ 0 (length known)) few
-terms_few known (items.List list) few valid = rw (length-map list _) (omega (arith, valid.within))
+terms_few known (items.All at) few valid = rw length-map-range_with_len few
+terms_few known (items.List list) few valid = rw length-map (omega (arith, valid.within))
 
 -- ---- the query
 
@@ -131,10 +132,10 @@ asked_of decls select query schema text binds =
     let known = known_columns decls select.sources in
     let few : length known ≤ 512 = omega (arith, known_few decls within select.sources, few_sources decls select.sources whole.from) in
     let terms = terms_few known select.items few (valid_read read.0 select (formed_tokens text.0 read.0 read.1) read.2).items in
-    let outputs = length-map (item_terms known select.items) (λ placed. position_in (shape_of (resolved decls select)) placed.term) in
+    let outputs = length-map (item_terms known select.items) (λ (placed : PlacedTerm). position_in (shape_of (resolved decls select)) placed.term) in
     record {
       bound = queries_are_bound select decls query (readings_are_formed text.0 read.0 select read.1 read.2) (declared_are_tables declares.0 decls declares.1) is_bound;
       outputs = subst (λ (n : ℕ). n < 2 ^ 32) (sym (ap (λ (q : Query). length q.outputs) whole.is ∙ outputs)) (omega arith);
-      references = subst (λ (q : Query). All (λ table. HasFewReferences table.decl) q.tables) (sym whole.is)
+      references = subst (λ (q : Query). All (λ (table : QueryTable). HasFewReferences table.decl) q.tables) (sym whole.is)
       (tables_there HasFewReferences decls (All-weaker IsWithin HasFewReferences (λ decl one. one.references) decls within) (table_places decls select.sources));
     }

@@ -243,10 +243,10 @@ reference_once db i j e f h k = elim (ordered i h.number h.target j k.number k.t
   | inl before ↦ absurd (holds_no_fault db i h.number h.target e (k.first i h.number h.target before) h.faults)
   | inr other ↦ elim other [
     | inl before ↦ absurd (holds_no_fault db j k.number k.target f (h.first j k.number k.target before) k.faults)
-    | inr (p, q, r) ↦
-        let one = subst (λ (t : ℕ). FaultsBetween db t h.number h.target e) p h.faults in
-        let two = subst (λ (t : ℕ). FaultsBetween db j t h.target e) q one in
-        (p, between_once db j k.number k.target e f (subst (λ (t : ℕ). FaultsBetween db j k.number t e) r two) k.faults)
+    | inr same ↦
+        let one = subst (λ (t : ℕ). FaultsBetween db t h.number h.target e) same.0 h.faults in
+        let two = subst (λ (t : ℕ). FaultsBetween db j t h.target e) same.1 one in
+        (same.0, between_once db j k.number k.target e f (subst (λ (t : ℕ). FaultsBetween db j k.number t e) same.2 two) k.faults)
   ]
 ]
 

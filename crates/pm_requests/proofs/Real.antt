@@ -31,8 +31,8 @@ use Rattle.pm_names.specs.declared.fault.BindBad.TheVariants as bad
 use Rattle.pm_names.specs.declared.terms.KnownColumn.{KnownColumn}
 use Rattle.pm_names.specs.declared.terms.PlacedTerm.{PlacedTerm}
 use Rattle.pm_names.specs.Breaches.{bad_if, outcome, each_from}
-use Rattle.pm_names.specs.Sources.{from_breaches, source_breaches, known_columns, known_at}
-use Rattle.pm_names.specs.Names.{name_breaches, sum_breaches, expr_breaches, expr_at}
+use Rattle.pm_names.specs.Sources.{alias_of, from_breaches, source_breaches, known_columns, known_at}
+use Rattle.pm_names.specs.Names.{name_at as column_at, name_breaches, sum_breaches, expr_breaches, expr_at}
 use Rattle.pm_names.specs.Kinds.{atom_breaches, kind_breaches, breaches_layer, test_breaches}
 use Rattle.pm_binder.specs.declared.terms.OrderTerm.{OrderTerm}
 use Rattle.pm_binder.specs.declared.terms.Terms.{Terms}
@@ -52,11 +52,11 @@ chosen false x y h k = k
 
 name_real : (at : ℕ) (text : List ℕ) → IsReal (name_at at text)
 unfolding name_at
-name_real at text = chosen _ (Err (lexing.LongName at)) _ (λ e. cc e) tt
+name_real at text = chosen _ (Err (lexing.LongName at)) (Ok _) (λ e. cc e) tt
 
 number_real : (at : ℕ) (text : List ℕ) → IsReal (number_at at text)
 unfolding number_at
-number_real at text = chosen _ (Err (lexing.LongNumber at)) _ (λ e. cc e) tt
+number_real at text = chosen _ (Err (lexing.LongNumber at)) (Ok _) (λ e. cc e) tt
 
 plain_real : (at n : ℕ) (found : Option ℕ) → IsReal (plain_at at n found)
 plain_real at n None = tt
@@ -89,17 +89,18 @@ before_real : (token : Token) (r : Result (List Token) LexBad) → IsReal r → 
 before_real token (Ok tokens) h = tt
 before_real token (Err e) h = h
 
+-- by what stands at the head of the text
+headed_real : (at b : ℕ) (rest : List ℕ) (h : Result Head LexBad) → head_of at (b ∷ rest) ≡ h → IsReal h → ((n : ℕ) → IsReal (tokens_after n (suc at) rest)) → IsReal (tokens_after 0 at (b ∷ rest))
+unfolding tokens_after
+headed_real at b rest (Ok (head.Gap n)) is real more = rw (is, tokens_after) (more (n - 1))
+headed_real at b rest (Ok (head.Piece k n)) is real more = rw (is, tokens_after) (before_real _ _ (more (n - 1)))
+headed_real at b rest (Err e) is real more = rw (is, tokens_after) real
+
 after_real : (n at : ℕ) (text : List ℕ) → IsReal (tokens_after n at text)
 unfolding tokens_after
 after_real n at [] = tt
 after_real (suc n) at (b ∷ rest) = after_real n (suc at) rest
-after_real zero at (b ∷ rest) = of (head_of at (b ∷ rest)) refl (head_real at (b ∷ rest))
-  where
-    of : (h : Result Head LexBad) → head_of at (b ∷ rest) ≡ h → IsReal h → IsReal (tokens_after zero at (b ∷ rest))
-    unfolding tokens_after
-    of (Ok (head.Gap n)) is real = rw (is, tokens_after) (after_real (n - 1) (suc at) rest)
-    of (Ok (head.Piece k n)) is real = rw (is, tokens_after) (before_real _ _ (after_real (n - 1) (suc at) rest))
-    of (Err e) is real = rw (is, tokens_after) real
+after_real zero at (b ∷ rest) = headed_real at b rest (head_of at (b ∷ rest)) refl (head_real at (b ∷ rest)) (λ n. after_real n (suc at) rest)
 
 pub tokens_real : (text : List ℕ) → tokens_of text ≢ Err lexing.Memory
 unfolding tokens_of
@@ -108,7 +109,7 @@ tokens_real text is = let real = after_real 0 0 text in (subst IsReal is real) r
 -- ---- binding
 
 abbrev AreReal : List BindBad → Type 0
-AreReal = AllByRecursion (λ e. e ≢ bad.Memory)
+AreReal = AllByRecursion (λ (e : BindBad). e ≢ bad.Memory)
 
 real_both : (xs ys : List BindBad) → AreReal xs → AreReal ys → AreReal (xs ++ ys)
 real_both [] ys h k = k
@@ -131,12 +132,13 @@ real_each f each i [] = tt
 real_each f each i (x ∷ xs) = real_both (f i x) (each_from f (i + 1) xs) (each i x) (real_each f each (i + 1) xs)
 
 source_real : (schema : List Declaration) (sources : List Source) (i : ℕ) (source : Source) → AreReal (source_breaches schema sources i source)
-source_real schema sources i source = real_both _ _ (real_both _ _ (real_if _ _ (λ e. cc e)) (real_if _ _ (λ e. cc e))) (real_if _ _ (λ e. cc e))
+source_real schema sources i source =
+    real_both _ _ (real_both _ _ (real_if _ (bad.TooManyTables source.table.at) (λ e. cc e)) (real_if _ (bad.NoTable source.table.at) (λ e. cc e))) (real_if _ (bad.DoubleAlias (alias_of source).at) (λ e. cc e))
 
 module _ (known : List KnownColumn) where
   names_real : (name : ColumnName) → AreReal (name_breaches known name)
   unfolding name_breaches
-  names_real name = real_both _ _ (real_if _ _ (λ e. cc e)) (real_if _ _ (λ e. cc e))
+  names_real name = real_both _ _ (real_if _ (bad.NoColumn (column_at name)) (λ e. cc e)) (real_if _ (bad.TwoColumns (column_at name)) (λ e. cc e))
 
   expr_real : (e : Expr) → AreReal (expr_breaches known e)
   expr_real (expr.Column name) = names_real name

@@ -2,7 +2,7 @@
 use Rattle.std.proofs.Common.{◌≡◌, ◌≢◌, ◌⊎◌, ◌∙◌, ◌<◌, ◌≤◌, ◌+◌, ℕ, zero, suc, Bool, true, false, List, [], ◌∷◌, ◌++◌, Option, Some, None, Result, Ok, Err, refl, sym, ap, subst, inl, inr, arith, slice_get, length, get_or}
 use Rattle.std.proofs.lemmas.Bool.{cases_order}
 use Rattle.std.proofs.lemmas.Option.{slice_get_within, slice_get_cases}
-use Rattle.std.proofs.lemmas.Map.Lookups.{exact_bytes}
+use Rattle.std.proofs.lemmas.Slice.Eq.{bytes_eq-Decides}
 use Rattle.std.specs.Str.{bytes_eq}
 use Rattle.pm_lexer.proofs.Boundary.{bytes_same}
 use Rattle.pm_lexer.specs.declared.token.Token.{Token}
@@ -52,23 +52,23 @@ use Rattle.pm_requests.proofs.Once.{holds_no_fault}
 use Rattle.pm_requests.proofs.Real.{tokens_real, bound_real}
 
 -- there is one
-abbrev Some' : {A : Type 0} → (A → Type 0) → Type 0
-Some' {A} P = (a : A) × P a
+abbrev pub Found : {A : Type 0} → (A → Type 0) → Type 0
+Found {A} P = (a : A) × P a
 
 -- ---- steps
 
-then_some : {A B E : Type 0} (P : Result A E → Type 0) (Q : A → Result B E → Type 0) → Some' P → ((a : A) → P (Ok a) → Some' (Q a)) → Some' (Then P Q)
+then_some : {A B E : Type 0} (P : Result A E → Type 0) (Q : A → Result B E → Type 0) → Found P → ((a : A) → P (Ok a) → Found (Q a)) → Found (Then P Q)
 then_some P Q (Ok a, p) next = let found = next a p in (found.0, (Ok a, p, found.1))
 then_some P Q (Err e, p) next = (Err e, (Err e, p, refl))
 
-refusing_some : {A : Type 0} (f : Fault → Refusal) (P : Result A Fault → Type 0) → Some' P → Some' (Refusing f P)
+refusing_some : {A : Type 0} (f : Fault → Refusal) (P : Result A Fault → Type 0) → Found P → Found (Refusing f P)
 refusing_some f P found = (refused f found.0, (found.0, found.1, refl))
 
 -- a refusal that is told
 abbrev IsTold : {E : Type 0} → (E → Option Fault) → E → Type 0
 IsTold fault_of e = (fault : Fault) × (fault_of e ≡ Some fault)
 
-shows_some : {A E : Type 0} (fault_of : E → Option Fault) (answer : Result A E) → ((e : E) → answer ≡ Err e → IsTold fault_of e) → Some' (Shows {A} fault_of answer)
+shows_some : {A E : Type 0} (fault_of : E → Option Fault) (answer : Result A E) → ((e : E) → answer ≡ Err e → IsTold fault_of e) → Found (Shows fault_of answer)
 shows_some fault_of (Ok a) told = (Ok a, refl)
 shows_some fault_of (Err e) told = let one = told e refl in (Err one.0, rw one.1 refl)
 
@@ -94,7 +94,7 @@ binding_told (binding.NotSelected p) real = (_, refl)
 binding_told (binding.NoJoinKey p) real = (_, refl)
 binding_told (binding.LeftOn p) real = (_, refl)
 
-text_some : (bytes : List ℕ) → Some' (TextGives bytes)
+text_some : (bytes : List ℕ) → Found (TextGives bytes)
 text_some bytes = elim (text_or_front bytes) [
   | inl text ↦
       let found = shows_some lexing_fault (tokens_of bytes) (λ e is. lexing_told e (λ none. tokens_real bytes (is ∙ ap Err none))) in
@@ -108,7 +108,7 @@ syntax_told tokens (syntax.TooDeep p) calls = (_, refl)
 syntax_told tokens (syntax.TooMany p) calls = (_, refl)
 syntax_told tokens syntax.Memory calls = absurd calls
 
-select_some : (tokens : List Token) → Some' (SelectGives tokens)
+select_some : (tokens : List Token) → Found (SelectGives tokens)
 select_some tokens =
     let (answer, calls) = reading.some_answer tokens in
     let found = shows_some syntax_fault answer (λ e is. syntax_told tokens e (subst (statement.CallsFor tokens) is calls)) in
@@ -126,7 +126,7 @@ schema_told tokens (schema.RefColumn p) calls = (_, refl)
 schema_told tokens (schema.RefShape p) calls = (_, refl)
 schema_told tokens schema.Memory calls = absurd calls
 
-schema_some : (tokens : List Token) → Some' (SchemaGives tokens)
+schema_some : (tokens : List Token) → Found (SchemaGives tokens)
 schema_some tokens =
     let (answer, calls) = called.some_answer tokens in
     let found = shows_some schema_fault answer (λ e is. schema_told tokens e (subst (meaning.CallsFor tokens) is calls)) in
@@ -138,49 +138,49 @@ not_above : (m n : ℕ) → (m < n → ⊥) → n ≤ m
 not_above m n other = elim (cases_order m n) [ inl e ↦ omega arith | inr apart ↦ elim apart [ inl lt ↦ absurd (other lt) | inr gt ↦ omega arith ] ]
 
 file_some : {A : Type 0} (file : Option (List ℕ)) (role : Role) (name : List ℕ) (limit : ℕ) (long : Refusal) (next : List ℕ → Result A Refusal → Type 0)
-    → ((bytes : List ℕ) → Some' (next bytes)) → Some' (FileGives file role name limit long next)
+    → ((bytes : List ℕ) → Found (next bytes)) → Found (FileGives file role name limit long next)
 file_some None role name limit long next some = (Err (refusal.NoFile role name), inl (refusal.NoFile role name, refl, refl))
 file_some (Some bytes) role name limit long next some = elim (lt_or_not limit (length bytes)) [
   | inl lt ↦ (Err long, inl (long, (lt, refl), refl))
   | inr other ↦ (let found = some bytes in (found.0, inr (not_above limit (length bytes) other, found.1)))
 ]
 
-schema_file_some : (held : Held) (name : List ℕ) → Some' (SchemaFile held name)
+schema_file_some : (held : Held) (name : List ℕ) → Found (SchemaFile held name)
 schema_file_some held name =
     file_some (held name) role.Schema name text_limit (refusal.Schema too_long) (λ bytes. Refusing refusal.Schema (SchemaText bytes))
     (λ bytes. refusing_some refusal.Schema (SchemaText bytes) (then_some (TextGives bytes) SchemaGives (text_some bytes) (λ tokens _. schema_some tokens)))
 
-query_file_some : (held : Held) (name : List ℕ) → Some' (QueryFile held name)
+query_file_some : (held : Held) (name : List ℕ) → Found (QueryFile held name)
 query_file_some held name =
     file_some (held name) role.Query name text_limit (refusal.Query too_long) (λ bytes. Refusing refusal.Query (SelectText bytes))
     (λ bytes. refusing_some refusal.Query (SelectText bytes) (then_some (TextGives bytes) SelectGives (text_some bytes) (λ tokens _. select_some tokens)))
 
-binds_some : (decls : List Declaration) (select : Select) → Some' (Binds decls select)
+binds_some : (decls : List Declaration) (select : Select) → Found (Binds decls select)
 binds_some decls select =
     refusing_some refusal.Binding (QueryGives decls select) (shows_some binding_fault (bound select decls) (λ e is. binding_told e (λ none. bound_real select decls (is ∙ ap Err none))))
 
-asks_some : (held : Held) (schema query : List ℕ) → Some' (Asks held schema query)
+asks_some : (held : Held) (schema query : List ℕ) → Found (Asks held schema query)
 asks_some held schema query =
     then_some (SchemaFile held schema) (λ decls. Then (QueryFile held query) (Binds decls)) (schema_file_some held schema)
     (λ decls _. then_some (QueryFile held query) (Binds decls) (query_file_some held query) (λ select _. binds_some decls select))
 
 -- ---- tables
 
-table_some : (table : QueryTable) (bytes : List ℕ) → Some' (TableGives table bytes)
+table_some : (table : QueryTable) (bytes : List ℕ) → Found (TableGives table bytes)
 table_some table bytes = let (answer, calls) = tables.some_answer table.decl bytes MOST_RECORDS in (answered table answer, (answer, calls, refl))
 
-table_file_some : (held : Held) (table : QueryTable) → Some' (TableFile held table)
+table_file_some : (held : Held) (table : QueryTable) → Found (TableFile held table)
 table_file_some held table =
     file_some (held table.decl.file) (role.Table table.place) table.decl.file table_limit (refusal.Table table.place table.decl.name bad.TooLong) (TableGives table) (table_some table)
 
-tables_after : (held : Held) (table : QueryTable) (tables : List QueryTable) → Some' (TableFile held table) → Some' (TablesGive held tables) → Some' (TablesGive held (table ∷ tables))
+tables_after : (held : Held) (table : QueryTable) (tables : List QueryTable) → Found (TableFile held table) → Found (TablesGive held tables) → Found (TablesGive held (table ∷ tables))
 tables_after held table tables (Err r, gives) rest =
     (Err r, (table, record { before = []; behind = tables; is = refl; db = []; loaded = tt }, gives))
 tables_after held table tables (Ok relation, gives) (Ok db, loaded) = (Ok (relation ∷ db), (gives, loaded))
 tables_after held table tables (Ok relation, gives) (Err r, (t, turn, refuses)) =
     (Err r, (t, record { before = table ∷ turn.before; behind = turn.behind; is = ap (λ ts. table ∷ ts) turn.is; db = relation ∷ turn.db; loaded = (gives, turn.loaded) }, refuses))
 
-tables_some : (held : Held) (tables : List QueryTable) → Some' (TablesGive held tables)
+tables_some : (held : Held) (tables : List QueryTable) → Found (TablesGive held tables)
 tables_some held [] = (Ok [], tt)
 tables_some held (table ∷ tables) = tables_after held table tables (table_file_some held table) (tables_some held tables)
 
@@ -246,7 +246,7 @@ pair_or_fault db i number j child parent at to low high = elim (true_or_false (b
 ]
   where
     unlike : (a b : List ℕ) → a ≡ b → bytes_eq a b ≡ false → ⊥
-    unlike a b same other = let alike : bytes_eq a b ≡ true = exact_bytes.1 a b same in cc (alike, other)
+    unlike a b same other = let alike : bytes_eq a b ≡ true = (bytes_eq-Decides a b).1 same in cc (alike, other)
 
 between_or_fault : (db : Db) (i number j : ℕ) → HoldsBetween db i number j ⊎ Breaks db i number j
 between_or_fault db i number j = of (slice_get db i) (slice_get db j) refl refl
@@ -332,7 +332,7 @@ all_or_fault db = elim (first_below (BreaksTable db) (table_or_not db) (length d
   | inr none ↦ inl (λ i m k child parent refers. table_holds db i (none i (slice_get_within db i child refers.child_at)) m k child parent refers)
 ]
 
-completes_some : (query : Query) (db : Db) → length query.tables ≡ length db → Some' (Completes query db)
+completes_some : (query : Query) (db : Db) → length query.tables ≡ length db → Found (Completes query db)
 completes_some query db long = elim (all_or_fault db) [
   | inl holds ↦ (Ok (record { query = query; db = db }), inl (holds, refl))
   | inr found ↦ elim (slice_get_cases query.tables found.0).1 [
@@ -345,7 +345,7 @@ completes_some query db long = elim (all_or_fault db) [
 
 -- ---- all of them
 
-pub some_answer : (held : Held) (schema query : List ℕ) → Some' (Calls held schema query)
+pub some_answer : (held : Held) (schema query : List ℕ) → Found (Calls held schema query)
 some_answer held schema query =
     then_some (Asks held schema query) (λ (found : Query). Then (TablesGive held found.tables) (Completes found)) (asks_some held schema query)
     (λ found _. then_some (TablesGive held found.tables) (Completes found) (tables_some held found.tables) (λ db loaded. completes_some found db (loaded_long held found.tables db loaded)))

@@ -28,9 +28,9 @@ one_holds db holds i j k child parent reference at to within is named =
     let shifted : k + 1 - 1 ≡ k = omega arith in
     let none : Reference = record { columns = []; target = []; keys = [] } in
     let there : slice_get child.decl.references k ≡ Some reference = slice_get_read child.decl.references (length child.decl.references) k reference refl within is in
-    let same : reference_of child.decl (k + 1) ≡ reference = ap (λ m. get_or child.decl.references m none) shifted ∙ get_or_from_slice_get child.decl.references k reference none there in
+    let same : reference_of child.decl (k + 1) ≡ reference = ap (λ (m : ℕ). get_or child.decl.references m none) shifted ∙ get_or_from_slice_get child.decl.references k reference none there in
     let target : (reference_of child.decl (k + 1)).target ≡ parent.decl.name = ap (λ (r : Reference). r.target) same ∙ sym (bytes_same parent.decl.name reference.target named) in
-    subst (λ r. ReferenceHolds r child.rows parent.rows) same (holds i (k + 1) j child parent (record { child_at = at; parent_at = to; from = omega arith; to = omega arith; named = target }))
+    subst (λ (r : Reference). ReferenceHolds r child.rows parent.rows) same (holds i (k + 1) j child parent (record { child_at = at; parent_at = to; from = omega arith; to = omega arith; named = target }))
 
 between : (db : Db) → AllHold db → (i j : ℕ) (child parent : Option Relation) → slice_get db i ≡ child → slice_get db j ≡ parent → ReferencesBetween db i j
 between db holds i j None parent at to = rw (slice_get-map (λ (t : Relation). t.decl) db i, at) (λ k d lt. absurd (omega arith))
