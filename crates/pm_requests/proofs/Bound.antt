@@ -137,5 +137,5 @@ asked_of decls select query schema text binds =
       bound = queries_are_bound select decls query (readings_are_formed text.0 read.0 select read.1 read.2) (declared_are_tables declares.0 decls declares.1) is_bound;
       outputs = subst (λ (n : ℕ). n < 2 ^ 32) (sym (ap (λ (q : Query). length q.outputs) whole.is ∙ outputs)) (omega arith);
       references = subst (λ (q : Query). All (λ (table : QueryTable). HasFewReferences table.decl) q.tables) (sym whole.is)
-      (tables_there HasFewReferences decls (All-weaker IsWithin HasFewReferences (λ decl one. one.references) decls within) (table_places decls select.sources));
+          (tables_there HasFewReferences decls (All-weaker IsWithin HasFewReferences (λ decl one. one.references) decls within) (table_places decls select.sources));
     }

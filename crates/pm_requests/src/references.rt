@@ -60,13 +60,7 @@ fn check_table(alloc: Global, db: &Db, i: usize, child: &Table) -> Result<(), Da
 }
 
 /// Checks the reference with this number, from 1, of the table at this position.
-fn check_number(
-    alloc: Global,
-    db: &Db,
-    i: usize,
-    child: &Table,
-    number: u32,
-) -> Result<(), DataBad>
+fn check_number(alloc: Global, db: &Db, i: usize, child: &Table, number: u32) -> Result<(), DataBad>
     requires there { slice_get db.now i ≡ Some child.now }
     requires from { 1 ≤ number }
     requires to { number ≤ length child.now.decl.references }

@@ -71,7 +71,13 @@ fn load_table<R: Threads + Sync, F: Files, G: Gate>(
     ensures stops { IfErr result (StopsAt (IsFileOf (role.Table table.now.place) table.now.decl.file)
         (F.last files.new) (F.stand files.new) (Rose (F.absences files.old) (F.absences files.new)) (Rose (F.faults files.old) (F.faults files.new))) }
 {
-    match read_file(alloc, files, Role::Table(table.place), table.decl.file(), TABLE_LIMIT)? {
+    match read_file(
+        alloc,
+        files,
+        Role::Table(table.place),
+        table.decl.file(),
+        TABLE_LIMIT,
+    )? {
         Some(bytes) => table_of(rt, alloc, table, bytes.as_slice(), workers, gate),
         None => Err(refused_table(alloc, table, DataBad::TooLong)),
     }
@@ -92,7 +98,15 @@ fn table_of<R: Threads + Sync, G: Gate>(
     ensures called { IfAnswered (TableGives table.now bytes.now) result }
     ensures own { IfErr result IsOfData }
 {
-    match pm_load::load(rt, alloc, table.decl.copy(alloc)?, bytes, workers, MOST_RECORDS, gate) {
+    match pm_load::load(
+        rt,
+        alloc,
+        table.decl.copy(alloc)?,
+        bytes,
+        workers,
+        MOST_RECORDS,
+        gate,
+    ) {
         Ok(loaded) => Ok(loaded),
         Err(DataBad::Memory) => Err(Refusal::NoMemory),
         Err(fault) => Err(refused_table(alloc, table, fault)),

@@ -8,7 +8,8 @@ use std::marker::Sync;
 use std::test::Fail;
 use std::thread::Threads;
 
-const SCHEMA: &str = "TABLE cust FROM 'c' (id INT NOT NULL, name TEXT, KEY (id));\nTABLE ord FROM 'o' (id INT NOT NULL, cust INT NOT NULL, REFERENCES (cust) TO cust (id));\n";
+const SCHEMA: &str =
+    "TABLE cust FROM 'c' (id INT NOT NULL, name TEXT, KEY (id));\nTABLE ord FROM 'o' (id INT NOT NULL, cust INT NOT NULL, REFERENCES (cust) TO cust (id));\n";
 
 const QUERY: &str = "SELECT name FROM ord o JOIN cust c ON o.cust = c.id";
 
