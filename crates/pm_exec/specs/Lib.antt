@@ -3,6 +3,8 @@ pub mod Flow
 pub mod ScanFlow
 pub mod FilterFlow
 pub mod ProjectFlow
+pub mod Growing
+pub mod GroupFlow
 pub mod IterFlow
 pub mod Plan
 pub mod Ran

@@ -7,6 +7,7 @@
 mod declared;
 mod exec;
 mod filter;
+mod group;
 mod iter;
 mod project;
 mod scan;
