@@ -1,7 +1,7 @@
 use Rattle.std.proofs.Common.{◌∙◌, sym, subst}
 use Rattle.pm_work.specs.Fits.{Fits}
 use Rattle.pm_work.proofs.Examples.{looked_up_fits}
-use Rattle.pm_work.proofs.tests.looked_up.Goals as goal
+use Rattle.pm_tests.proofs.works.looked_up.Goals as goal
 
 pub count_whole-requires : goal.count_whole-requires
 count_whole-requires c =

@@ -1,6 +1,6 @@
 //! Queries, and what reading them answers, at each limit of the lists and of depth.
-use crate::statement::parse;
 use pm_lexer::lex;
+use pm_syntax::parse;
 use pm_values::Txt;
 use std::alloc::{AllocError, Global};
 use std::test::Fail;

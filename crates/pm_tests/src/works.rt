@@ -8,7 +8,7 @@ ghost use Rattle.pm_plan.specs.Preorder.{nodes_of};
 ghost use Rattle.pm_plan.specs.Worked.{declared, integer_column, keyless, label, over};
 ghost use Rattle.pm_work.specs.Worked.{counted_left_join, looked_up_keyless};
 
-use crate::count_whole;
+use pm_work::count_whole;
 use pm_plan::{
     Aggregate, Aggregates, Label, Node, Nodes, Pair, Pairs, Plan, SortKey, SortKeys, Unique,
 };
