@@ -1,0 +1,4 @@
+pub mod Refined
+pub mod Refining
+pub mod Steps
+pub mod Example
