@@ -1,10 +1,6 @@
-pub mod Listed
 pub mod Orders
-pub mod Takes
-pub mod Unique
 pub mod Widths
 pub mod Capped
-pub mod Shapes
 pub mod Found
 pub mod Joined
 pub mod Bound

@@ -5,15 +5,15 @@ ghost use Rattle.pm_plan.specs.Preorder.{nodes_of};
 ghost use Rattle.pm_plan.specs.Kinds.{kinds_of};
 ghost use Rattle.pm_query.specs.Bound.{IsBound};
 ghost use Rattle.pm_build.specs.declared.building.BuildBad.TheVariants as bad;
-ghost use Rattle.pm_build.specs.Trees.{tree_of};
-ghost use Rattle.pm_build.specs.Tables.{table_decls};
+ghost use Rattle.pm_joining.specs.Trees.{tree_of};
+ghost use Rattle.pm_joining.specs.Tables.{table_decls};
 ghost use Rattle.pm_build.specs.Built.{built};
 
 use crate::first::too_wide;
 use crate::groups::tree_for;
 use crate::kinds::kinds_of;
 use crate::nodes::nodes_of;
-use crate::tree::Tree;
+use pm_joining::Tree;
 use pm_plan::Plan;
 use pm_query::{Choice, Query};
 use pm_values::Names;

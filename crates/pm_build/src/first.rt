@@ -6,10 +6,10 @@ ghost use Rattle.pm_plan.specs.Tree.{Seek};
 ghost use Rattle.pm_plan.specs.Roots.{method_of};
 ghost use Rattle.pm_work.specs.Formulas.{exact, up_to, capped_if, hi_over, hi_joined, pairs_hi, most_matches};
 ghost use Rattle.pm_work.specs.First.{size_in, unstarted, uncounted, first_seek, first_hi, first_sum, greatest, first_bound, most_work, most_summed, is_sum, has_sum, summed_in, too_wide};
-ghost use Rattle.pm_build.specs.Trees.{unary_of, seek_of, tree_of};
+ghost use Rattle.pm_joining.specs.Trees.{unary_of, seek_of, tree_of};
 
-use crate::tree::{Seek, Tree, Unary};
 use pm_fraction::{add_capped, mul_capped};
+use pm_joining::{Seek, Tree, Unary};
 use pm_plan::{Aggregate, Method, Unique};
 
 /// The most work of a plan that is run, in rows.

@@ -3,10 +3,10 @@ ghost use Rattle.std.specs.Prelude.{◌≡◌, ◌≢◌, ◌≤◌, ◌<◌, �
 ghost use Rattle.pm_plan.specs.Tree.{Over, Project, Group};
 ghost use Rattle.pm_query.specs.Answer.{position_of, selected_orders};
 ghost use Rattle.pm_query.specs.Build.{sort_if, group_if, numbers_from, tree_for};
-ghost use Rattle.pm_build.specs.Trees.{tree_of};
+ghost use Rattle.pm_joining.specs.Trees.{tree_of};
 
 use crate::joins::{filtered, join_tree};
-use crate::tree::{Tree, Unary};
+use pm_joining::{Tree, Unary};
 use pm_plan::{Aggregates, SortKey, SortKeys};
 use pm_query::{Choice, Query};
 use pm_values::{Columns, Cond};

@@ -1,34 +1,14 @@
-//! How many columns the rows of a tree have, and of which kinds they are.
-ghost use Rattle.std.specs.Prelude.{◌≡◌, ◌++◌, ◌<◌, ◌^◌, map, IfOk, OnOk};
-ghost use Rattle.pm_plan.specs.Kinds.{width, kinds_of, table_kinds, kind_at, kind_of_item, kinds_over};
-ghost use Rattle.pm_build.specs.Trees.{unary_of, tree_of};
-ghost use Rattle.pm_build.specs.Tables.{table_decls};
+//! Of which kinds the columns of the rows of a tree are.
+ghost use Rattle.std.specs.Prelude.{◌≡◌, ◌++◌, map, IfOk, OnOk};
+ghost use Rattle.pm_plan.specs.Kinds.{kinds_of, table_kinds, kind_at, kind_of_item, kinds_over};
+ghost use Rattle.pm_joining.specs.Trees.{unary_of, tree_of};
+ghost use Rattle.pm_joining.specs.Tables.{table_decls};
 
-use crate::tables::{columns_of, table_width};
-use crate::tree::{Tree, Unary};
+use pm_joining::{Tree, Unary, columns_of};
 use pm_plan::Aggregate;
 use pm_query::QueryTable;
 use pm_values::{Kind, Kinds};
 use std::alloc::{AllocError, Global};
-
-/// How many columns the rows have.
-pub fn width(tables: &[QueryTable], tree: &Tree) -> u32
-    requires { width (table_decls tables.now) (tree_of tree.now) < 2 ^ 32 }
-    ensures { result ≡ width (table_decls tables.now) (tree_of tree.now) }
-{
-    match tree {
-        Tree::Scan { table, .. } => table_width(tables, *table),
-        Tree::Over { op, child } => match op {
-            Unary::Filter(_) => width(tables, child.get()),
-            Unary::Project(columns) => columns.len() as u32,
-            Unary::Sort(_) => width(tables, child.get()),
-            Unary::Group { keys, items } => (keys.len() + items.len()) as u32,
-        },
-        Tree::Join { left, right, .. } => width(tables, left.get()) + width(tables, right.get()),
-        Tree::Index { left, seek, .. } => width(tables, left.get())
-            + table_width(tables, seek.table),
-    }
-}
 
 fn push_table_kinds(kinds: &mut Kinds, tables: &[QueryTable], table: u32) -> Result<(), AllocError>
     ensures { OnOk result (kinds.new ≡ kinds.old ++ table_kinds (table_decls tables.now) table) }

@@ -5,21 +5,13 @@
 #![tactic(auto)]
 
 mod building;
-mod entry;
 mod first;
-mod flags;
 mod groups;
 mod joins;
 mod kinds;
 mod nodes;
-mod references;
-mod tables;
-mod taking;
 #[cfg(test)]
 mod tests;
-mod tree;
-mod uniqueness;
-mod ways;
 mod worked;
 
 pub use building::{BuildBad, build};

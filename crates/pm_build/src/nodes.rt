@@ -3,9 +3,9 @@ ghost use Rattle.std.specs.Prelude.{◌≡◌, ◌+◌, ◌<◌, ◌^◌, ◌++�
 ghost use Rattle.pm_plan.specs.Tree.{size};
 ghost use Rattle.pm_plan.specs.Roots.{method_of};
 ghost use Rattle.pm_plan.specs.Preorder.{unary_node, join_node, seek_node, nodes_of};
-ghost use Rattle.pm_build.specs.Trees.{unary_of, on_of, seek_of, tree_of};
+ghost use Rattle.pm_joining.specs.Trees.{unary_of, on_of, seek_of, tree_of};
 
-use crate::tree::{On, Seek, Tree, Unary};
+use pm_joining::{On, Seek, Tree, Unary};
 use pm_plan::{Method, Node, Nodes};
 use std::alloc::{AllocError, Global};
 

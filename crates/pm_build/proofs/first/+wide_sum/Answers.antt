@@ -1,10 +1,10 @@
 use Rattle.std.proofs.Common.{◌∙◌, sym, ap}
 use Rattle.std.specs.Prelude.{find, nat_lt}
 use Rattle.pm_work.specs.First.{most_summed, summed_in}
-use Rattle.pm_build.specs.declared.tree.Tree.{Tree}
-use Rattle.pm_build.specs.Trees.{tree_of}
+use Rattle.pm_joining.specs.declared.tree.Tree.{Tree}
+use Rattle.pm_joining.specs.Trees.{tree_of}
 use Rattle.pm_build.proofs.Found.{found_left, found_right}
-use Rattle.pm_build.proofs.Shapes.{join_is}
+use Rattle.pm_joining.proofs.Shapes.{join_is}
 use Rattle.pm_build.proofs.first.+wide_sum.Goals as goal
 
 pub returns-in-Some : goal.returns-in-Some

@@ -1,5 +1,5 @@
 use Rattle.std.proofs.Common.{◌∙◌, arith}
-use Rattle.pm_build.specs.Trees.{tree_of}
+use Rattle.pm_joining.specs.Trees.{tree_of}
 use Rattle.pm_build.proofs.Capped.{few_rows, hi_is}
 use Rattle.pm_build.proofs.first.first_hi.Goals as goal
 

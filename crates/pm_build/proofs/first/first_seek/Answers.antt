@@ -1,7 +1,7 @@
 use Rattle.std.proofs.Common.{◌∙◌, ap, arith}
 use Rattle.pm_work.specs.Formulas.{up_to}
 use Rattle.pm_work.specs.First.{first_seek, greatest}
-use Rattle.pm_build.specs.Trees.{seek_of, tree_of}
+use Rattle.pm_joining.specs.Trees.{seek_of, tree_of}
 use Rattle.pm_build.proofs.Capped.{few_rows, seek_is}
 use Rattle.pm_build.proofs.first.first_seek.Goals as goal
 

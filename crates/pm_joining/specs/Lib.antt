@@ -1,0 +1,5 @@
+pub mod Trees
+pub mod Tables
+pub mod Sides
+pub mod Taking
+pub mod Ways
