@@ -3,4 +3,5 @@ pub mod Widths
 pub mod Capped
 pub mod Found
 pub mod Joined
+pub mod Promised
 pub mod Bound

@@ -3,17 +3,19 @@ ghost use Rattle.std.specs.Prelude.{◌≡◌, ◌⊎◌, ◌+◌, ◌<◌, ◌^
 ghost use Rattle.pm_plan.specs.Tree.{size};
 ghost use Rattle.pm_plan.specs.Preorder.{nodes_of};
 ghost use Rattle.pm_plan.specs.Kinds.{kinds_of};
+ghost use Rattle.pm_plan.specs.Valid.{IsValid};
 ghost use Rattle.pm_query.specs.Bound.{IsBound};
+ghost use Rattle.pm_query.specs.Build.{decls_in};
 ghost use Rattle.pm_build.specs.declared.building.BuildBad.TheVariants as bad;
 ghost use Rattle.pm_joining.specs.Trees.{tree_of};
 ghost use Rattle.pm_joining.specs.Tables.{table_decls};
-ghost use Rattle.pm_build.specs.Built.{built};
+ghost use Rattle.pm_build.specs.Built.{built, HasRowsOf, FitsDatabases};
 
 use crate::first::too_wide;
 use crate::groups::tree_for;
 use crate::kinds::kinds_of;
 use crate::nodes::nodes_of;
-use pm_joining::Tree;
+use pm_joining::{Tree, tables_are_declared};
 use pm_plan::Plan;
 use pm_query::{Choice, Query};
 use pm_values::Names;
@@ -68,11 +70,18 @@ fn plan_of(alloc: Global, query: &Query, tree: Tree) -> Result<Plan, AllocError>
 /// A bound query has exactly one plan for each choice. `TooWide` comes exactly where its first bound is above 10^34, with
 /// that bound, or where it is not, and that of the rows below a SUM is above 10^18, with that one. `Memory` is want of
 /// memory.
+///
+/// The plan's rows are those that the query asks for, so they are the same for each choice; it is valid for the query's
+/// tables, and fits them.
 pub fn build(alloc: Global, query: &Query, sizes: &[u64], choice: Choice) -> Result<Plan, BuildBad>
     requires bound { IsBound query.now }
     requires narrow { length query.now.outputs < 2 ^ 32 }
-    ensures { (result ≡ built query.now sizes.now choice) ⊎ IsErrOf result bad.Memory }
+    ensures plan { (result ≡ built query.now sizes.now choice) ⊎ IsErrOf result bad.Memory }
+    ensures rows { IfOk result (HasRowsOf query.now) }
+    ensures valid { IfOk result (λ plan. IsValid plan (decls_in query.now)) }
+    ensures fits { IfOk result (FitsDatabases query.now sizes.now) }
 {
+    tables_are_declared(query.tables.as_slice());
     let tree = tree_for(alloc, query, sizes, choice)?;
     match too_wide(sizes, &tree) {
         Some(bound) => Err(BuildBad::TooWide(bound)),
