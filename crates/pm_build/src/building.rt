@@ -19,6 +19,7 @@ use pm_joining::{Tree, tables_are_declared};
 use pm_plan::Plan;
 use pm_query::{Choice, Query};
 use pm_values::Names;
+use sqlite_items::Boxed;
 use std::alloc::{AllocError, Global};
 
 /// Why a plan is not built.
@@ -51,13 +52,13 @@ fn copy_names(alloc: Global, names: &Names) -> Result<Names, AllocError>
 }
 
 // The plan of a query that this tree is built for.
-fn plan_of(alloc: Global, query: &Query, tree: Tree) -> Result<Plan, AllocError>
+fn plan_of(alloc: Global, query: &Query, tree: Boxed<Tree>) -> Result<Plan, AllocError>
     requires { 1 + size (tree_of tree) < 2 ^ 32 }
     ensures { IfOk result (λ plan. plan ≡ record { nodes = nodes_of (tree_of tree) 1; heads = query.now.heads; kinds = kinds_of (table_decls query.now.tables) (tree_of tree) }) }
 {
-    let kinds = kinds_of(alloc, query.tables.as_slice(), &tree)?;
+    let kinds = kinds_of(alloc, query.tables.as_slice(), tree.get())?;
     let heads = copy_names(alloc, &query.heads)?;
-    let nodes = nodes_of(alloc, tree)?;
+    let nodes = nodes_of(alloc, tree.into_inner())?;
     Ok(Plan {
         nodes,
         heads,
@@ -83,7 +84,7 @@ pub fn build(alloc: Global, query: &Query, sizes: &[u64], choice: Choice) -> Res
 {
     tables_are_declared(query.tables.as_slice());
     let tree = tree_for(alloc, query, sizes, choice)?;
-    match too_wide(sizes, &tree) {
+    match too_wide(sizes, tree.get()) {
         Some(bound) => Err(BuildBad::TooWide(bound)),
         None => Ok(plan_of(alloc, query, tree)?),
     }

@@ -10,6 +10,7 @@ use pm_joining::{Tree, Unary};
 use pm_plan::{Aggregates, SortKey, SortKeys};
 use pm_query::{Choice, Query};
 use pm_values::{Columns, Cond};
+use sqlite_items::Boxed;
 use std::alloc::{AllocError, Global};
 
 fn copy_if(alloc: Global, cond: &Option<Cond>) -> Result<Option<Cond>, AllocError>
@@ -21,7 +22,7 @@ fn copy_if(alloc: Global, cond: &Option<Cond>) -> Result<Option<Cond>, AllocErro
     }
 }
 
-fn sort_if(alloc: Global, keys: SortKeys, tree: Tree) -> Result<Tree, AllocError>
+fn sort_if(alloc: Global, keys: SortKeys, tree: Boxed<Tree>) -> Result<Boxed<Tree>, AllocError>
     ensures { IfOk result (λ made. tree_of made ≡ sort_if keys (tree_of tree)) }
 {
     if keys.is_empty() {
@@ -31,7 +32,7 @@ fn sort_if(alloc: Global, keys: SortKeys, tree: Tree) -> Result<Tree, AllocError
     }
 }
 
-fn group_if(alloc: Global, query: &Query, tree: Tree) -> Result<Tree, AllocError>
+fn group_if(alloc: Global, query: &Query, tree: Boxed<Tree>) -> Result<Boxed<Tree>, AllocError>
     ensures { IfOk result (λ made. tree_of made ≡ group_if query.now (tree_of tree)) }
 {
     if !query.grouped {
@@ -85,7 +86,7 @@ fn selected_orders(alloc: Global, query: &Query) -> Result<SortKeys, AllocError>
     Ok(orders)
 }
 
-fn projected(alloc: Global, query: &Query, tree: Tree) -> Result<Tree, AllocError>
+fn projected(alloc: Global, query: &Query, tree: Boxed<Tree>) -> Result<Boxed<Tree>, AllocError>
     ensures { IfOk result (λ made. tree_of made ≡ Over (Project query.now.outputs) (tree_of tree)) }
 {
     let columns = Columns::from_slice(alloc, query.outputs.as_slice())?;
@@ -93,7 +94,7 @@ fn projected(alloc: Global, query: &Query, tree: Tree) -> Result<Tree, AllocErro
 }
 
 // With DISTINCT: the rows selected, each different one once, and sorted.
-fn distinct(alloc: Global, query: &Query, rows: Tree) -> Result<Tree, AllocError>
+fn distinct(alloc: Global, query: &Query, rows: Boxed<Tree>) -> Result<Boxed<Tree>, AllocError>
     requires { length query.now.outputs < 2 ^ 32 }
     ensures { IfOk result (λ made. tree_of made ≡ sort_if (selected_orders query.now) (Over (Group (numbers_from 0 query.now.outputs) []) (Over (Project query.now.outputs) (tree_of rows)))) }
 {
@@ -105,7 +106,7 @@ fn distinct(alloc: Global, query: &Query, rows: Tree) -> Result<Tree, AllocError
 }
 
 // Without DISTINCT: the rows sorted and then selected.
-fn sorted(alloc: Global, query: &Query, rows: Tree) -> Result<Tree, AllocError>
+fn sorted(alloc: Global, query: &Query, rows: Boxed<Tree>) -> Result<Boxed<Tree>, AllocError>
     ensures { IfOk result (λ made. tree_of made ≡ Over (Project query.now.outputs) (sort_if query.now.orders (tree_of rows))) }
 {
     let keys = SortKeys::from_slice(alloc, query.orders.as_slice())?;
@@ -119,7 +120,7 @@ pub fn tree_for(
     query: &Query,
     sizes: &[u64],
     choice: Choice,
-) -> Result<Tree, AllocError>
+) -> Result<Boxed<Tree>, AllocError>
     requires some { query.now.sources ≢ [] }
     requires few { length query.now.sources ≤ 8 }
     requires narrow { length query.now.outputs < 2 ^ 32 }

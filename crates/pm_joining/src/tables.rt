@@ -12,6 +12,7 @@ use crate::tree::Tree;
 use pm_plan::Label;
 use pm_query::{QuerySource, QueryTable};
 use pm_values::{ColumnDecl, TableDecl, Txt};
+use sqlite_items::Boxed;
 use std::alloc::{AllocError, Global};
 
 /// The declaration of the table of this position, None past the last one.
@@ -93,11 +94,15 @@ pub fn scan_of(
     alloc: Global,
     tables: &[QueryTable],
     source: &QuerySource,
-) -> Result<Tree, AllocError>
+) -> Result<Boxed<Tree>, AllocError>
     ensures { IfOk result (λ tree. tree_of tree ≡ scan_of (table_decls tables.now) source.now) }
 {
-    Ok(Tree::Scan {
-        table: source.table,
-        label: label_of(alloc, tables, source)?,
-    })
+    let label = label_of(alloc, tables, source)?;
+    Boxed::new(
+        alloc,
+        Tree::Scan {
+            table: source.table,
+            label,
+        },
+    )
 }

@@ -59,13 +59,14 @@ pub enum Tree {
 
 impl Tree {
     /// An operator over a tree.
-    pub fn over(alloc: Global, op: Unary, child: Tree) -> Result<Tree, AllocError>
+    pub fn over(
+        alloc: Global,
+        op: Unary,
+        child: Boxed<Tree>,
+    ) -> Result<Boxed<Tree>, AllocError>
         ensures { IfOk result (λ tree. tree_of tree ≡ Over (unary_of op) (tree_of child)) }
     {
-        Ok(Tree::Over {
-            op,
-            child: Boxed::new(alloc, child)?,
-        })
+        Boxed::new(alloc, Tree::Over { op, child })
     }
 
     /// A join of two trees.
@@ -73,32 +74,31 @@ impl Tree {
         alloc: Global,
         method: Method,
         on: On,
-        left: Tree,
-        right: Tree,
-    ) -> Result<Tree, AllocError>
+        left: Boxed<Tree>,
+        right: Boxed<Tree>,
+    ) -> Result<Boxed<Tree>, AllocError>
         ensures { IfOk result (λ tree. tree_of tree ≡ Join (method_of method) (on_of on) (tree_of left) (tree_of right)) }
     {
-        Ok(Tree::Join {
-            method,
-            on,
-            left: Boxed::new(alloc, left)?,
-            right: Boxed::new(alloc, right)?,
-        })
+        Boxed::new(
+            alloc,
+            Tree::Join {
+                method,
+                on,
+                left,
+                right,
+            },
+        )
     }
 
     /// A tree with the rows that a seek looks up for it.
     pub fn index(
         alloc: Global,
-        left: Tree,
+        left: Boxed<Tree>,
         seek: Seek,
         cond: Option<Cond>,
-    ) -> Result<Tree, AllocError>
+    ) -> Result<Boxed<Tree>, AllocError>
         ensures { IfOk result (λ tree. tree_of tree ≡ Index (tree_of left) (seek_of seek) cond) }
     {
-        Ok(Tree::Index {
-            left: Boxed::new(alloc, left)?,
-            seek,
-            cond,
-        })
+        Boxed::new(alloc, Tree::Index { left, seek, cond })
     }
 }
