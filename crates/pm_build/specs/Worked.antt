@@ -1,6 +1,8 @@
 -- queries for worked examples
 use Rattle.std.specs.Prelude.{ℕ, true, false, List, [], ◌∷◌, Option, None, Some, codes}
 use Rattle.pm_values.specs.declared.condition.Comparison.TheVariants as comparison
+use Rattle.pm_values.specs.declared.condition.Operand.TheVariants as operand
+use Rattle.pm_values.specs.declared.condition.Cond.{Cond}
 use Rattle.pm_values.specs.declared.condition.Cond.TheVariants as cond
 use Rattle.pm_values.specs.Table.{Declaration}
 use Rattle.pm_plan.specs.declared.plan.Aggregate.TheVariants as aggregate
@@ -66,16 +68,18 @@ sum_of_three =
 abbrev pub counted_above : Tree
 counted_above = Over (Project (0 ∷ [])) (Over (Filter (against comparison.Greater 0 5)) (Over (Group [] (aggregate.CountAll ∷ [])) (Scan 0 (label (codes "ord") (codes "ord")))))
 
--- ON .. AND o.amt > 5 AND (o.amt > 5 OR c.id > 1): the first is on the first source alone, and the second on both
-abbrev pub orders_by_either : Query
-orders_by_either =
-    orders_with_names order_decl customer_decl
-    (conjunct (Some 1) (against comparison.Greater 2 5) ∷ conjunct (Some 1) (cond.Any (against comparison.Greater 2 5 ∷ against comparison.Greater 3 1 ∷ [])) ∷ [])
+-- o.amt < c.id
+abbrev pub below_id : Cond
+below_id = cond.Compare comparison.Less (operand.Column 2 0) (operand.Column 3 0)
 
-abbrev pub either_above : Tree
-either_above =
+-- ON .. AND o.amt > 5 AND o.amt < c.id: the first is on the first source alone, and the second reads both and is no pair
+abbrev pub orders_below_id : Query
+orders_below_id = orders_with_names order_decl customer_decl (conjunct (Some 1) (against comparison.Greater 2 5) ∷ conjunct (Some 1) below_id ∷ [])
+
+abbrev pub filtered_above : Tree
+filtered_above =
     Over (Project (4 ∷ 2 ∷ []))
-    (Over (Filter (cond.Any (against comparison.Greater 2 5 ∷ against comparison.Greater 3 1 ∷ [])))
+    (Over (Filter below_id)
     (Join (Hash false) (on (pair 1 0) (flags false true))
     (Over (Filter (against comparison.Greater 2 5)) (Scan 0 (label (codes "ord") (codes "o"))))
     (Scan 1 (label (codes "cust") (codes "c")))))

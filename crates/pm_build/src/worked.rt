@@ -5,7 +5,7 @@ ghost use Rattle.pm_query.specs.declared.query.Choice.TheVariants as choice;
 ghost use Rattle.pm_query.specs.Bound.{IsBound};
 ghost use Rattle.pm_query.specs.Build.{tree_for};
 ghost use Rattle.pm_query.specs.Worked.{many_orders};
-ghost use Rattle.pm_build.specs.Worked.{two_keyless, two_keyless_two_keyed, sum_of_three, counted_above, orders_by_either, either_above};
+ghost use Rattle.pm_build.specs.Worked.{two_keyless, two_keyless_two_keyed, sum_of_three, counted_above, orders_below_id, filtered_above};
 
 /// The widest plans that are built, and the next ones: by the first bound of the whole work, and by that of the rows below
 /// a SUM.
@@ -20,7 +20,7 @@ pub fn widths_worked()
 /// reads alone, and above the joins where it reads two.
 pub fn places_worked()
     ensures having { tree_for many_orders (4 ∷ []) choice.Auto ≡ counted_above }
-    ensures either { tree_for orders_by_either (4 ∷ 3 ∷ []) choice.Hash ≡ either_above }
+    ensures reads_both { tree_for orders_below_id (4 ∷ 3 ∷ []) choice.Hash ≡ filtered_above }
 {}
 
 /// The query of the test is bound.

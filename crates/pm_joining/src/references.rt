@@ -9,10 +9,10 @@ ghost use Rattle.pm_plan.specs.Roots.{method_of};
 ghost use Rattle.pm_joining.specs.Trees.{tree_of};
 ghost use Rattle.pm_joining.specs.Tables.{table_decls};
 
-use crate::widths::width;
 use crate::tables::decl_at;
 use crate::tree::Tree;
 use crate::uniqueness::keeps_columns;
+use crate::widths::width;
 use pm_plan::{Pair, pads};
 use pm_query::QueryTable;
 use pm_values::{ColumnDecl, Reference};

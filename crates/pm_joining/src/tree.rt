@@ -59,11 +59,7 @@ pub enum Tree {
 
 impl Tree {
     /// An operator over a tree.
-    pub fn over(
-        alloc: Global,
-        op: Unary,
-        child: Boxed<Tree>,
-    ) -> Result<Boxed<Tree>, AllocError>
+    pub fn over(alloc: Global, op: Unary, child: Boxed<Tree>) -> Result<Boxed<Tree>, AllocError>
         ensures { IfOk result (λ tree. tree_of tree ≡ Over (unary_of op) (tree_of child)) }
     {
         Boxed::new(alloc, Tree::Over { op, child })
