@@ -12,3 +12,5 @@ pub mod Begins
 pub mod Joins
 pub mod Works
 pub mod Steps
+pub mod NodeLists
+pub mod Gauging

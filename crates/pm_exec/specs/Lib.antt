@@ -9,6 +9,8 @@ pub mod BuildFlow
 pub mod HashFlow
 pub mod KeyColumns
 pub mod Noted
+pub mod Indexes
+pub mod Gauged
 pub mod IterFlow
 pub mod Plan
 pub mod Ran

@@ -9,7 +9,9 @@ mod columns;
 mod declared;
 mod exec;
 mod filter;
+mod gauges;
 mod hash;
+mod indexes;
 mod iter;
 mod laws;
 mod project;
@@ -20,4 +22,5 @@ mod tick;
 
 pub use columns::{JoinColumns, KeyColumns, key_columns};
 pub use exec::Exec;
+pub use indexes::{Indexes, indexes};
 pub use tick::Tick;
