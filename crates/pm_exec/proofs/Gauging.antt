@@ -20,7 +20,10 @@ use Rattle.pm_plan.specs.Preorder.{node_of, seek_node, nodes_of, tree_of}
 use Rattle.pm_plan.specs.Outputs.{output, rows_over, sought, keeps_if}
 use Rattle.pm_plan.proofs.Walks.{EachAt-map, EachAt-root, length-list_at}
 use Rattle.pm_work.specs.Events.{Event, events, rows_at, counts}
-use Rattle.pm_work.specs.Moments.{Counts, gauge_of, seek_gauge, gauges_of, gauges_at, settled, seek_settled, settled_over}
+use Rattle.pm_work.specs.Orderly.{Orderly}
+use Rattle.pm_work.proofs.Flags.{merges_ascend}
+use Rattle.pm_work.proofs.Orders.{Orderly-events}
+use Rattle.pm_work.specs.Moments.{Counts, counts_at, gauge_of, seek_gauge, gauges_of, gauges_at, settled, seek_settled, settled_over}
 use Rattle.pm_work.specs.Fits.{Fits, IsSound}
 use Rattle.pm_work.proofs.Counting.{events_each}
 use Rattle.pm_work.proofs.Joins.{length-filter_take, joined_take_le}
@@ -189,3 +192,13 @@ all_counted plan db t fits tables =
     (EachAt-map (λ u m. settled db u m K ≤ top) (λ u m. IsCounted (gauge_of db u m K)) (λ left seek m. seek_settled db left seek m K ≤ top) (λ left seek m. IsCounted (seek_gauge db left seek m K))
     (λ u m s. record { handed = omega (arith, handed m, few); settled = omega (arith, s, few) })
     (λ left seek m s. record { handed = omega (arith, handed (right_number m left), few); settled = omega (arith, s, few) }) tree 1 (settled_few db K top tree 1 rows))
+
+-- ---- what a caller needs of them
+
+pub nodes_many : (plan : Plan) (db : Db) → Fits plan db → size (tree_of plan.nodes) ≡ length plan.nodes
+nodes_many plan db fits = sym (ap length fits.valid.numbered ∙ length-list_at node_of (λ left seek m. seek_node seek (m + 1)) (tree_of plan.nodes) 1)
+
+pub moment_orderly : (plan : Plan) (db : Db) (t : ℕ) → Fits plan db → All IsRelation db → Orderly db (tree_of plan.nodes) 1 (counts_at db (tree_of plan.nodes) t)
+moment_orderly plan db t fits tables =
+    let tree : Tree = tree_of plan.nodes in
+    Orderly-events db (take t (events db tree 1)) (drop t (events db tree 1)) tree 1 (merges_ascend db tables tree fits.valid.operators) (take-append-drop t (events db tree 1))

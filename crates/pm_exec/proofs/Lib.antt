@@ -13,4 +13,5 @@ pub mod Joins
 pub mod Works
 pub mod Steps
 pub mod NodeLists
+pub mod NoteLists
 pub mod Gauging

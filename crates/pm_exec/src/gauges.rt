@@ -72,7 +72,8 @@ pub fn first_gauges(
     ensures { IfOk result (λ gauges. gauges.items ≡ map (first_gauge db.now) plan.now.nodes) }
 {
     let mut gauges = Vec::new(alloc);
-    for (k, node) in plan.nodes.as_slice().iter().enumerate() {
+    let nodes = plan.nodes.as_slice();
+    for (k, node) in nodes.iter().enumerate() {
         gauges.push(first_gauge(db, node, indexes.at(k)))?;
     }
     Ok(gauges)

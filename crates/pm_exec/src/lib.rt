@@ -22,5 +22,5 @@ mod tick;
 
 pub use columns::{JoinColumns, KeyColumns, key_columns};
 pub use exec::Exec;
-pub use indexes::{Indexes, indexes};
+pub use indexes::{Indexes, seek_indexes};
 pub use tick::Tick;
