@@ -7,12 +7,17 @@ pub mod ProjectFlow
 pub mod SideFlow
 pub mod BuildFlow
 pub mod HashFlow
+pub mod Sought
+pub mod LookupFlow
+pub mod IndexFlow
 pub mod KeyColumns
 pub mod Noted
 pub mod Indexes
+pub mod InnerSide
 pub mod Gauged
 pub mod IterFlow
 pub mod Plan
 pub mod Ran
 pub mod Memory
 pub mod Running
+pub mod Worked

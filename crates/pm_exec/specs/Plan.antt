@@ -1,8 +1,9 @@
 -- the events of a tree as the iterators over it have them to come
-use Rattle.std.specs.Prelude.{◌≡◌, ℕ, ◌+◌, ◌-◌, ◌<◌, ◌≤◌, ◌^◌, ◌==◌, Bool, true, false, ◌&&◌, if◌then◌else◌, List, [], ◌∷◌, ◌++◌, map, length, All}
+use Rattle.std.specs.Prelude.{◌≡◌, ℕ, ◌+◌, ◌-◌, ◌<◌, ◌≤◌, ◌^◌, ◌==◌, Bool, true, false, ◌&&◌, if◌then◌else◌, List, [], ◌∷◌, ◌++◌, map, length, All, Option}
 use Rattle.pm_values.specs.Row.{Row, AllBelow}
 use Rattle.pm_values.specs.WellFormed.{IsWellFormed}
-use Rattle.pm_values.specs.Table.{IsRelation}
+use Rattle.pm_values.specs.Table.{IsRelation, Relation}
+use Rattle.pm_values.specs.declared.condition.Cond.{Cond}
 use Rattle.pm_plan.specs.declared.plan.Node.{Node}
 use Rattle.pm_plan.specs.declared.plan.Pair.{Pair}
 use Rattle.pm_plan.specs.Rows.{Db, table_rows, decls_of}
@@ -16,6 +17,7 @@ use Rattle.pm_work.specs.Events.{events}
 use Rattle.pm_work.specs.Changes.{settled_by_row}
 use Rattle.pm_exec.specs.Coming.{Coming, taken_read, rows_by, read, rows_in, streamed}
 use Rattle.pm_exec.specs.Hashed.{hashed}
+use Rattle.pm_exec.specs.Sought.{IsWellFormedIf, looked_up}
 use Rattle.pm_exec.specs.Flow.{Flow}
 
 -- node n takes these events in before it hands out a row, the rows of its child after the first ones, and each step may take memory
@@ -52,7 +54,7 @@ abbrev pub is_run : Tree → Bool
 is_run (Scan table label) = true
 is_run (Over op child) = is_run_over op && is_run child
 is_run (Join method on left right) = is_run_method method && (is_run left && is_run right)
-is_run (Index left seek cond) = false
+is_run (Index left seek cond) = is_run left
 
 -- the events of a tree whose root has number n
 abbrev pub coming : Db → Tree → ℕ → List Coming
@@ -60,7 +62,8 @@ coming db (Scan table label) n = rows_by n true (table_rows db table)
 coming db (Over op child) n = coming_over op n (coming db child (n + 1))
 coming db (Join method on left right) n =
     coming_joined method on.pairs n (right_number n left) (width (decls_of db) right) (coming db left (n + 1)) (coming db right (right_number n left))
-coming db (Index left seek cond) n = []
+coming db (Index left seek cond) n =
+    looked_up cond n (right_number n left) seek.on.pairs (table_rows db seek.table) [] (coming db left (n + 1))
 
 -- the step at the end takes no memory
 abbrev pub ends_free : Tree → Bool
@@ -144,3 +147,20 @@ pub record IsJoined (method : Method) (n : ℕ) (pairs : List Pair) (left right 
   pub rest : f.rest ≡ joined method n pairs left right
   pub free_end : f.free_end ≡ left.free_end
   pub width : length f.hand ≡ length left.hand + length right.hand
+
+-- what an index join asks of its left side, which has handed out nothing, and of the table of its Seek
+pub record CanLookUp (n seek : ℕ) (cond : Option Cond) (pairs : List Pair) (table : Relation) (l : Flow) : Type 0 where
+  pub left : l.node ≡ n + 1
+  pub numbered : n + 1 < 2 ^ 32
+  pub behind : n + 1 < seek
+  pub narrow : length l.hand + length table.decl.columns < 2 ^ 32
+  pub lefts : AllBelow (left_columns pairs) (length l.hand)
+  pub well_formed : IsWellFormedIf (length l.hand + length table.decl.columns) cond
+  pub few : length (looked_up cond n seek pairs table.rows [] l.rest) < 2 ^ 128
+
+-- an iterator of node n, of an index join of this left side
+pub record IsLookedUp (n seek : ℕ) (cond : Option Cond) (pairs : List Pair) (table : Relation) (l f : Flow) : Type 0 where
+  pub node : f.node ≡ n
+  pub rest : f.rest ≡ looked_up cond n seek pairs table.rows [] l.rest
+  pub free_end : f.free_end ≡ l.free_end
+  pub width : length f.hand ≡ length l.hand + length table.decl.columns

@@ -11,13 +11,18 @@ mod exec;
 mod filter;
 mod gauges;
 mod hash;
+mod index;
 mod indexes;
+mod inner;
 mod iter;
 mod laws;
+mod lookup;
 mod project;
 mod scan;
 mod side;
 mod taken;
+#[cfg(test)]
+mod tests;
 mod tick;
 
 pub use columns::{JoinColumns, KeyColumns, key_columns};
