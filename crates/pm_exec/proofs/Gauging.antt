@@ -15,8 +15,8 @@ use Rattle.pm_plan.specs.Rows.{Db, table_rows, decls_of}
 use Rattle.pm_plan.specs.Joins.{keys_of, matches, join}
 use Rattle.pm_plan.specs.Grouping.{group_row}
 use Rattle.pm_plan.specs.Kinds.{width}
-use Rattle.pm_plan.specs.Tree.{Unary, Filter, Project, Sort, Group, Method, Hash, Merge, Tree, Scan, Over, Join, Index, Seek, size, right_number, EachAt, list_at}
-use Rattle.pm_plan.specs.Preorder.{node_of, seek_node, nodes_of, tree_of}
+use Rattle.pm_plan.specs.Tree.{Unary, Filter, Project, Sort, Group, Hash, Merge, Tree, Scan, Over, Join, Index, size, right_number, EachAt}
+use Rattle.pm_plan.specs.Preorder.{node_of, seek_node, tree_of}
 use Rattle.pm_plan.specs.Outputs.{output, rows_over, sought, keeps_if}
 use Rattle.pm_plan.proofs.Walks.{EachAt-map, EachAt-root, length-list_at}
 use Rattle.pm_work.specs.Events.{Event, events, rows_at, counts}
@@ -39,8 +39,7 @@ use Rattle.pm_exec.proofs.Comings.{event-coming}
 use Rattle.pm_exec.proofs.Noting.{Noted, coming_noted}
 use Rattle.pm_exec.proofs.GaugeLists.{gauges_next}
 use Rattle.pm_exec.proofs.NodeLists.{All-list_at, list_at-same, map-list_at}
-use Rattle.pm_exec.proofs.Steps.{map-drop}
-use Rattle.pm_exec.proofs.Works.{sound_of, events_few}
+use Rattle.pm_exec.proofs.Works.{events_few}
 
 -- ---- before the first event
 

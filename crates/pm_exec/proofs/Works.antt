@@ -1,18 +1,17 @@
 -- the events of a plan that is run can be counted in 128 bits
-use Rattle.std.proofs.Common.{◌≡◌, ℕ, ◌<◌, ◌≤◌, ◌^◌, length, arith}
+use Rattle.std.proofs.Common.{ℕ, ◌<◌, ◌≤◌, ◌^◌, length, arith}
 use Rattle.std.specs.Prelude.{All}
 use Rattle.pm_values.specs.Table.{IsRelation}
 use Rattle.pm_plan.specs.declared.plan.Plan.{Plan}
 use Rattle.pm_plan.specs.Rows.{Db}
-use Rattle.pm_plan.specs.Tree.{Tree, Seek, Each}
+use Rattle.pm_plan.specs.Tree.{Tree, Seek}
 use Rattle.pm_plan.specs.Preorder.{tree_of}
 use Rattle.pm_plan.specs.Outputs.{output, sought}
 use Rattle.pm_plan.proofs.Walks.{Each-EachAt, sum_at-le, sum_at-sum_in}
 use Rattle.pm_work.specs.Events.{events}
 use Rattle.pm_work.specs.Fits.{Fits, IsSound, sizes_of}
 use Rattle.pm_work.specs.Formulas.{exact}
-use Rattle.pm_work.specs.First.{first_hi, first_seek, most_work}
-use Rattle.pm_work.specs.Work.{whole_work}
+use Rattle.pm_work.specs.First.{first_hi, first_seek}
 use Rattle.pm_work.proofs.Counting.{length-events}
 use Rattle.pm_work.proofs.Flags.{flags}
 use Rattle.pm_work.proofs.FirstBounds.{all_within_first}

@@ -1,5 +1,5 @@
 -- the events of a tree as the iterators over it have them to come
-use Rattle.std.specs.Prelude.{◌≡◌, ℕ, ◌+◌, ◌-◌, ◌<◌, ◌≤◌, ◌^◌, ◌==◌, Bool, true, false, ◌&&◌, if◌then◌else◌, List, [], ◌∷◌, ◌++◌, map, length, All, Option}
+use Rattle.std.specs.Prelude.{◌≡◌, ℕ, ◌+◌, ◌-◌, ◌<◌, ◌≤◌, ◌^◌, ◌==◌, Bool, true, false, ◌&&◌, if◌then◌else◌, List, [], ◌∷◌, ◌++◌, length, All, Option}
 use Rattle.pm_values.specs.Row.{Row, AllBelow}
 use Rattle.pm_values.specs.WellFormed.{IsWellFormed}
 use Rattle.pm_values.specs.Table.{IsRelation, Relation}
@@ -15,7 +15,7 @@ use Rattle.pm_plan.specs.Outputs.{rows_over}
 use Rattle.pm_plan.specs.Valid.{is_source, IsValidTree}
 use Rattle.pm_work.specs.Events.{events}
 use Rattle.pm_work.specs.Changes.{settled_by_row}
-use Rattle.pm_exec.specs.Coming.{Coming, taken_read, rows_by, read, rows_in, streamed}
+use Rattle.pm_exec.specs.Coming.{Coming, taken_read, rows_by, rows_in, streamed}
 use Rattle.pm_exec.specs.Hashed.{hashed}
 use Rattle.pm_exec.specs.Sought.{IsWellFormedIf, looked_up}
 use Rattle.pm_exec.specs.Flow.{Flow}

@@ -1,5 +1,5 @@
 -- a plan for the tests
-use Rattle.std.specs.Prelude.{[], ◌∷◌, false, codes}
+use Rattle.std.specs.Prelude.{false, codes}
 use Rattle.pm_values.specs.declared.condition.Comparison.TheVariants as comparison
 use Rattle.pm_plan.specs.Tree.{Filter, Hash, Tree, Scan, Over, Join}
 use Rattle.pm_plan.specs.Worked.{against, flags, label, on, pair}

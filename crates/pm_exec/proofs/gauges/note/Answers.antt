@@ -1,4 +1,4 @@
-use Rattle.std.proofs.Common.{◌≡◌, ◌∙◌, ◌+◌, ◌-◌, ap, arith, get_or}
+use Rattle.std.proofs.Common.{◌∙◌, ◌+◌, ◌-◌, ap, arith, get_or}
 use Rattle.std.specs.Prelude.{slice_set}
 use Rattle.pm_plan.specs.declared.gauge.Gauge.{Gauge}
 use Rattle.pm_exec.proofs.NoteLists.{zeros, one_more, changed_at, noted_alone, noted_both, handed_fits, settled_fits}
