@@ -7,6 +7,8 @@ pub mod HashSteps
 pub mod Notes
 pub mod Noting
 pub mod GaugeLists
+pub mod Groups
+pub mod GroupSteps
 pub mod Comings
 pub mod Begins
 pub mod Joins

@@ -9,6 +9,8 @@ pub mod BuildFlow
 pub mod HashFlow
 pub mod KeyColumns
 pub mod Noted
+pub mod Growing
+pub mod GroupFlow
 pub mod Indexes
 pub mod Gauged
 pub mod IterFlow

@@ -10,6 +10,7 @@ mod declared;
 mod exec;
 mod filter;
 mod gauges;
+mod group;
 mod hash;
 mod indexes;
 mod iter;
