@@ -20,4 +20,3 @@ pub mod Steps
 pub mod NodeLists
 pub mod NoteLists
 pub mod Gauging
-pub mod Examples

@@ -22,4 +22,3 @@ pub mod Plan
 pub mod Ran
 pub mod Memory
 pub mod Running
-pub mod Worked
