@@ -92,9 +92,9 @@ module _ (t : Taken) (gs : List Gauge) (among : IsAmong (length gs) t) where
   pub noted_alone : t.reader ≡ 0 → own ≡ gauges_with 1 t gs
   noted_alone none =
       by_index own (gauges_with 1 t gs) (length-own ∙ sym (length-with 1 t gs)) (λ k l.
-          let unread : eqb t.reader (1 + k) ≡ false = neq-eqb t.reader (1 + k) (λ z. omega (arith, z, none)) in
-          own-at k ∙ alone (eqb t.node (1 + k)) (get_or gs k zeros) ∙ (rw unread refl)
-          ∙ sym (with-at 1 t gs k (omega (arith, l, length-with 1 t gs))))
+      let unread : eqb t.reader (1 + k) ≡ false = neq-eqb t.reader (1 + k) (λ z. omega (arith, z, none)) in
+      own-at k ∙ alone (eqb t.node (1 + k)) (get_or gs k zeros) ∙ (rw unread refl)
+      ∙ sym (with-at 1 t gs k (omega (arith, l, length-with 1 t gs))))
 
   both : (b r : Bool) (g : Gauge) → (if r then read_by t (if b then one_more g else g) else (if b then one_more g else g))
       ≡ record { handed = g.handed + (if b then 1 else 0); settled = g.settled + (if r then t.settled else 0); worst = (if r then max g.worst t.worst else g.worst); size = g.size }
@@ -107,11 +107,11 @@ module _ (t : Taken) (gs : List Gauge) (among : IsAmong (length gs) t) where
   noted_both some =
       by_index (changed_at (read_by t) (t.reader - 1) own) (gauges_with 1 t gs)
       (length-changed (read_by t) own (t.reader - 1) (read_by t (get_or own (t.reader - 1) zeros)) ∙ length-own ∙ sym (length-with 1 t gs)) (λ k l.
-          changed-at (read_by t) own (t.reader - 1) k (omega (arith, some, among.reader, length-own))
-          ∙ ap (λ b. if b then read_by t (get_or own k zeros) else get_or own k zeros) (same-eqb t.reader k some)
-          ∙ ap (λ g. if eqb t.reader (1 + k) then read_by t g else g) (own-at k)
-          ∙ both (eqb t.node (1 + k)) (eqb t.reader (1 + k)) (get_or gs k zeros)
-          ∙ sym (with-at 1 t gs k (omega (arith, l, length-with 1 t gs))))
+      changed-at (read_by t) own (t.reader - 1) k (omega (arith, some, among.reader, length-own))
+      ∙ ap (λ b. if b then read_by t (get_or own k zeros) else get_or own k zeros) (same-eqb t.reader k some)
+      ∙ ap (λ g. if eqb t.reader (1 + k) then read_by t g else g) (own-at k)
+      ∙ both (eqb t.node (1 + k)) (eqb t.reader (1 + k)) (get_or gs k zeros)
+      ∙ sym (with-at 1 t gs k (omega (arith, l, length-with 1 t gs))))
 
   module _ (counted : All IsCounted (gauges_with 1 t gs)) where
     counted-at : (a : ℕ) → 1 ≤ a → a ≤ length gs → IsCounted (gauge_with a t (get_or gs (a - 1) zeros))

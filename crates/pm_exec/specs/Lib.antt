@@ -1,5 +1,6 @@
 pub mod Coming
 pub mod Hashed
+pub mod Held
 pub mod Flow
 pub mod ScanFlow
 pub mod FilterFlow
@@ -15,6 +16,7 @@ pub mod Indexes
 pub mod Gauged
 pub mod IterFlow
 pub mod Plan
+pub mod SortFlow
 pub mod Ran
 pub mod Memory
 pub mod Running

@@ -15,9 +15,11 @@ mod hash;
 mod indexes;
 mod iter;
 mod laws;
+mod part;
 mod project;
 mod scan;
 mod side;
+mod sort;
 mod taken;
 mod tick;
 
