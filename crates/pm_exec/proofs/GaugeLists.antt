@@ -1,12 +1,10 @@
 -- the gauges of a moment as a list, and what one event changes in them
-use Rattle.std.proofs.Common.{◌≡◌, ℕ, zero, suc, ◌+◌, ◌-◌, ◌<◌, ◌≤◌, Bool, true, false, eqb, List, [], ◌∷◌, ◌++◌, map, length, max, refl, ap, sym, subst, ◌∙◌, ◌⊎◌, inl, inr, arith, length-append}
-use Rattle.std.specs.Prelude.{if◌then◌else◌, Option, Some, slice_get, slice_set, All}
-use Rattle.std.proofs.lemmas.Bool.{eq-eqb}
-use Rattle.pm_values.specs.Table.{IsRelation}
+use Rattle.std.proofs.Common.{◌≡◌, ℕ, ◌+◌, eqb, List, [], ◌∷◌, ◌++◌, length, refl, ap, ◌∙◌, arith}
+use Rattle.std.specs.Prelude.{if◌then◌else◌}
 use Rattle.pm_values.specs.Row.{Row}
 use Rattle.pm_plan.specs.declared.gauge.Gauge.{Gauge}
 use Rattle.pm_plan.specs.Rows.{Db}
-use Rattle.pm_plan.specs.Tree.{Tree, Scan, Over, Join, Index, Seek, size, right_number, EachAt, list_at}
+use Rattle.pm_plan.specs.Tree.{Tree, Scan, Over, Join, Index, Seek, right_number, EachAt, list_at}
 use Rattle.pm_plan.proofs.Walks.{length-list_at, EachAt-both, EachAt-map}
 use Rattle.pm_work.specs.Events.{Event, counts, events}
 use Rattle.pm_work.specs.Moments.{Counts, gauge_of, seek_gauge, gauges_of}
@@ -15,11 +13,7 @@ use Rattle.pm_work.specs.Fits.{IsSound}
 use Rattle.pm_work.proofs.Flags.{merges_ascend}
 use Rattle.pm_work.proofs.Changes.{gauges_step}
 use Rattle.pm_exec.specs.declared.taken.Taken.{Taken}
-use Rattle.pm_exec.specs.Coming.{Coming, event_of}
-use Rattle.pm_exec.specs.Plan.{coming, is_run}
-use Rattle.pm_exec.specs.Noted.{more_at, worst_with_it, gauge_with, gauges_with}
-use Rattle.pm_exec.proofs.Streams.{neq-eqb}
-use Rattle.pm_exec.proofs.Comings.{event-coming}
+use Rattle.pm_exec.specs.Noted.{more_at, gauge_with, gauges_with}
 use Rattle.pm_exec.proofs.Notes.{NodeNoted, SeekNoted, AllNoted}
 
 -- ---- a list of gauges

@@ -1,25 +1,19 @@
 -- what an event says of its reader is what it settles there
-use Rattle.std.proofs.Common.{◌≡◌, ℕ, zero, suc, ◌+◌, ◌<◌, ◌≤◌, Bool, true, false, cond, eqb, List, [], ◌∷◌, ◌++◌, map, length, take, max, refl, ap, sym, subst, ◌∙◌, ◌⊎◌, inl, inr, arith, append_assoc, append-nil, length-append}
-use Rattle.std.specs.Prelude.{if◌then◌else◌, nat_lt}
-use Rattle.std.specs.List.{filter}
-use Rattle.std.proofs.lemmas.Bool.{eq-eqb, eqb-true, cases_Bool}
+use Rattle.std.proofs.Common.{◌≡◌, ℕ, ◌+◌, ◌<◌, ◌≤◌, Bool, true, false, eqb, List, [], ◌∷◌, ◌++◌, map, refl, ap, sym, subst, ◌∙◌, ◌⊎◌, inl, inr, arith, append_assoc, append-nil}
+use Rattle.std.specs.Prelude.{if◌then◌else◌}
 use Rattle.std.proofs.lemmas.List.{map-append}
-use Rattle.std.proofs.lemmas.List.Elements.{filter-append}
 use Rattle.pm_values.specs.Row.{Row}
-use Rattle.pm_plan.specs.Rows.{Db, decls_of}
-use Rattle.pm_plan.specs.Joins.{worst}
+use Rattle.pm_plan.specs.Rows.{Db}
 use Rattle.pm_plan.specs.Tree.{Tree, Scan, Over, Join, Index, Seek, size, right_number, EachAt}
-use Rattle.pm_plan.specs.Outputs.{output}
-use Rattle.pm_work.specs.Events.{Event, rows_at, counts}
+use Rattle.pm_work.specs.Events.{Event, rows_at}
 use Rattle.pm_work.specs.Moments.{Counts, worst_at}
 use Rattle.pm_work.specs.Changes.{settled_by, seek_settled_by, worst_after}
 use Rattle.pm_work.proofs.EventLists.{rows_at-append}
 use Rattle.pm_work.proofs.EventLaws.{size_pos}
 use Rattle.pm_exec.specs.declared.taken.Taken.{Taken}
-use Rattle.pm_exec.specs.Coming.{Coming, event_of, taken_by, rows_by, read, after}
+use Rattle.pm_exec.specs.Coming.{Coming, event_of, after}
 use Rattle.pm_exec.specs.Noted.{more_at, worst_with_it}
 use Rattle.pm_exec.proofs.Streams.{neq-eqb}
-use Rattle.pm_exec.proofs.Comings.{event-after}
 
 -- ---- the facts
 

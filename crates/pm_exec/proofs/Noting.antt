@@ -1,34 +1,36 @@
 -- in the events that iterators have to come, each says of its reader what it settles there
-use Rattle.std.proofs.Common.{◌≡◌, ℕ, zero, suc, ◌+◌, ◌<◌, ◌≤◌, Bool, true, false, cond, eqb, List, [], ◌∷◌, ◌++◌, map, length, take, max, refl, ap, sym, subst, ◌∙◌, ◌⊎◌, inl, inr, arith, append_assoc, append-nil, length-append}
-use Rattle.std.specs.Prelude.{if◌then◌else◌}
+use Rattle.std.proofs.Common.{◌≡◌, ℕ, ◌+◌, ◌<◌, ◌≤◌, Bool, true, false, eqb, List, [], ◌∷◌, ◌++◌, map, length, take, max, refl, ap, sym, subst, ◌∙◌, ◌⊎◌, inl, inr, arith, length-append, get_or, ◌-◌}
+use Rattle.std.specs.Prelude.{if◌then◌else◌, Option}
+use Rattle.std.proofs.Math.Seq.{get_or-append_seam}
 use Rattle.std.specs.List.{filter}
 use Rattle.std.proofs.lemmas.Bool.{eq-eqb, eqb-true, cases_Bool}
-use Rattle.std.proofs.lemmas.Bool.Decides.{eqb_tells}
 use Rattle.std.proofs.lemmas.List.{map-append, take_all}
+use Rattle.pm_values.specs.declared.condition.Cond.{Cond}
 use Rattle.pm_values.specs.Row.{Row, pick}
 use Rattle.pm_values.specs.Equality.{same_key}
 use Rattle.pm_values.specs.Keys.{worst as worst_key}
 use Rattle.pm_values.proofs.KeysAppended.{worst-append_key, worst-append_null}
-use Rattle.pm_plan.specs.declared.plan.Pair.{Pair}
 use Rattle.pm_plan.specs.Rows.{Db, table_rows, decls_of}
-use Rattle.pm_plan.specs.Joins.{right_columns, keys_of, rows_for, worst, multiplicity}
+use Rattle.pm_plan.specs.Joins.{right_columns, keys_of, rows_for, worst, multiplicity, matches}
 use Rattle.pm_plan.specs.Kinds.{width}
-use Rattle.pm_plan.specs.Tree.{Unary, Filter, Project, Sort, Group, Method, Hash, Merge, On, Tree, Scan, Over, Join, Index, Seek, size, right_number, EachAt}
-use Rattle.pm_plan.specs.Outputs.{output, rows_over}
-use Rattle.pm_work.specs.Events.{Event, events, events_of, rows_at, counts}
+use Rattle.pm_plan.specs.Tree.{Unary, Filter, Project, Sort, Group, Hash, Merge, On, Tree, Scan, Over, Join, Index, Seek, size, right_number}
+use Rattle.pm_plan.specs.Outputs.{output, rows_over, sought, keeps_if}
+use Rattle.pm_plan.proofs.Walks.{EachAt-root}
+use Rattle.pm_work.proofs.Counting.{events_each}
+use Rattle.pm_work.specs.Events.{events, events_of, rows_at}
 use Rattle.pm_work.specs.Moments.{Counts, worst_at}
-use Rattle.pm_work.specs.Changes.{settled_by, settled_by_row, seek_settled_by, worst_after, worst_with}
-use Rattle.pm_work.proofs.EventLists.{Within, Within-first, Only, Only-events_of, rows_at-other, rows_at-outside}
+use Rattle.pm_work.specs.Changes.{settled_by_row, settled_by_sought, last_row, worst_with}
+use Rattle.pm_work.proofs.EventLists.{Within, Within-first, Only-events_of, rows_at-other, rows_at-outside}
 use Rattle.pm_work.proofs.Cuts.{front_of}
-use Rattle.pm_work.proofs.EventLaws.{size_pos, apart, Within-events, rows_at-events}
+use Rattle.pm_work.proofs.EventLaws.{size_pos, Within-events, rows_at-events}
 use Rattle.pm_exec.specs.declared.taken.Taken.{Taken}
 use Rattle.pm_exec.specs.Coming.{Coming, event_of, taken_by, taken_read, rows_by, read, rows_in, after}
 use Rattle.pm_exec.specs.Hashed.{entered}
+use Rattle.pm_exec.specs.Sought.{kept_row, seek_rows, looked_up}
 use Rattle.pm_exec.specs.Plan.{is_run, coming, taken_in}
-use Rattle.pm_exec.specs.Noted.{more_at, worst_with_it}
 use Rattle.pm_exec.proofs.Streams.{neq-eqb}
 use Rattle.pm_exec.proofs.Comings.{event-rows_by, event-coming, rows_in-at, run_below, run_sides}
-use Rattle.pm_exec.proofs.Notes.{NodeNoted, SeekNoted, AllNoted, IsApart, apart-noted, FromBelow, FromCall, cut-append, cut-after, rows_of, rows_of-append, history, FromHistory, cut-history}
+use Rattle.pm_exec.proofs.Notes.{AllNoted, apart-noted, FromBelow, cut-append, cut-after, rows_of, rows_of-append, history, FromHistory, cut-history}
 
 -- an event of a tree at these counts
 pub record Noted (db : Db) (K : Counts) (t : Tree) (n : ℕ) (e : Coming) : Type 0 where
@@ -330,6 +332,132 @@ module _ (db : Db) (K : Counts) where
                   reader = elim h.reader [ inl p ↦ inl p | inr q ↦ inr (omega (arith, q.0), omega (arith, q.1)) ];
                 })
 
+  -- ---- an index join
+
+  module _ (left : Tree) (seek : Seek) (c : Option Cond) (n : ℕ) (some : 1 ≤ n) (lefts : List Coming)
+      (of_left : (done rest : List Coming) (e : Coming) → done ++ e ∷ rest ≡ lefts → Agree K done (n + 1) (n + 1 + size left) → Noted db K left (n + 1) e) where
+    abbrev seek_number : ℕ
+    seek_number = right_number n left
+
+    abbrev table : List Row
+    table = table_rows db seek.table
+
+    abbrev finds : Row → ℕ
+    finds l = length (matches seek.on.pairs l table)
+
+    abbrev looks : Row → List Coming
+    looks l = seek_rows c n seek_number l (matches seek.on.pairs l table)
+
+    abbrev whole : Tree
+    whole = Index left seek c
+
+    -- a row that was looked up, for this left row
+    pub record IsSoughtFor (l : Row) (e : Coming) : Type 0 where
+      pub r : Row
+      pub taken : e.taken ≡ taken_read n (length (kept_row c l r)) 0 (taken_by seek_number)
+      pub row : e.row ≡ r
+
+    in_looks : (l : Row) (rows : List Row) (first rest : List Coming) (e : Coming) → first ++ e ∷ rest ≡ seek_rows c n seek_number l rows
+        → (e.taken ≡ taken_by n) ⊎ IsSoughtFor l e
+    in_looks l [] [] rest e is = absurd cc
+    in_looks l [] (d ∷ first) rest e is = absurd cc
+    in_looks l (r ∷ rows) [] rest e is =
+        let head : e ≡ record { taken = taken_read n (length (kept_row c l r)) 0 (taken_by seek_number); row = r; free = true } = cc in
+        inr (record { r = r; taken = ap (λ x. x.taken) head; row = ap (λ x. x.row) head })
+    in_looks l (r ∷ rows) (d ∷ first) rest e is =
+        let tail : first ++ e ∷ rest ≡ rows_by n true (kept_row c l r) ++ seek_rows c n seek_number l rows = cc in
+        elim (cut-append first rest (rows_by n true (kept_row c l r)) (seek_rows c n seek_number l rows) e tail) [
+          | inl p ↦ inl (row_taken n true (kept_row c l r) first p.0 e p.1)
+          | inr p ↦ in_looks l rows p.0 rest e p.2
+        ]
+
+    quiet_looks : (m : ℕ) → (m ≡ n → ⊥) × (m ≡ seek_number → ⊥) → (l : Row) (rows : List Row) → rows_of m (seek_rows c n seek_number l rows) ≡ []
+    quiet_looks m q l [] = refl
+    quiet_looks m q l (r ∷ rows) =
+        let own : eqb seek_number m ≡ false = neq-eqb seek_number m (λ z. q.1 (sym z)) in
+        (rw own refl) ∙ rows_of-append m (rows_by n true (kept_row c l r)) (seek_rows c n seek_number l rows)
+        ∙ ap (λ xs. xs ++ rows_of m (seek_rows c n seek_number l rows)) (quiet_rows n true m q.0 (kept_row c l r)) ∙ quiet_looks m q l rows
+
+    last-row : (earlier : List Row) (l : Row) → last_row (earlier ++ l ∷ []) ≡ l
+    last-row earlier l =
+        ap (λ k. get_or (earlier ++ l ∷ []) k []) (end earlier l) ∙ get_or-append_seam earlier l [] []
+      where
+        end : (earlier : List Row) (l : Row) → length (earlier ++ l ∷ []) - 1 ≡ length earlier
+        end earlier l = omega (arith, length-append earlier (l ∷ []))
+
+    -- a row of the Seek is read by the Index, with the last left row
+    seek_noted : (done : List Coming) (l : Row) (earlier rest : List Row) (e : Coming) → IsSoughtFor l e → rows_of (n + 1) done ≡ earlier ++ l ∷ []
+        → rows_of (n + 1) done ++ rest ≡ output db left → K (n + 1) ≡ length (rows_of (n + 1) done) → Noted db K whole n e
+    seek_noted done l earlier rest e i last all count =
+        let front : take (K (n + 1)) (output db left) ≡ earlier ++ l ∷ [] = front_at (K (n + 1)) (rows_of (n + 1) done) rest (output db left) count all ∙ last in
+        let node : e.taken.node ≡ seek_number = ap (λ t. t.node) i.taken in
+        let reader : e.taken.reader ≡ n = ap (λ t. t.reader) i.taken in
+        let at : eqb e.taken.node seek_number ≡ true = eq-eqb e.taken.node seek_number node in
+        let past : eqb e.taken.node (n + 1) ≡ false = neq-eqb e.taken.node (n + 1) (λ z. omega (arith, z, node, size_pos left)) in
+        let own : eqb e.taken.reader n ≡ true = eq-eqb e.taken.reader n reader in
+        let other : eqb e.taken.reader seek_number ≡ false = neq-eqb e.taken.reader seek_number (λ z. omega (arith, z, reader)) in
+        let settles : settled_by_sought c (take (K (n + 1)) (output db left)) e.row ≡ e.taken.settled =
+        ap (λ ls. settled_by_sought c ls e.row) front ∙ ap (λ x. length (filter (keeps_if c) ((x ++ e.row) ∷ []))) (last-row earlier l)
+        ∙ ap (λ x. length (kept_row c l x)) i.row ∙ sym (ap (λ t. t.settled) i.taken) in
+        let none : e.taken.worst ≡ 0 = ap (λ t. t.worst) i.taken in
+        record {
+          all = (
+            record { settles = rw (at, own) settles; worst = rw (own, none) refl },
+            record { settles = rw (past, other) refl; worst = λ w. rw other refl },
+            apart-noted db K e.taken e.row left (n + 1) (record { node = inr (omega (arith, node)); reader = inl (omega (arith, reader)) }),
+          );
+          low = omega (arith, node);
+          high = omega (arith, node);
+          reader = inr (omega (arith, reader), omega (arith, reader));
+        }
+
+    sought_noted : (done rest : List Coming) (e : Coming) → done ++ e ∷ rest ≡ looked_up c n seek_number seek.on.pairs table [] lefts
+        → rows_of (n + 1) done ++ rows_of (n + 1) (e ∷ rest) ≡ output db left → Agree K done n (n + (2 + size left)) → Noted db K whole n e
+    sought_noted done rest e is all agree =
+        elim (cut-after (n + 1) (read seek_number finds) looks (λ m. (m ≡ n → ⊥) × (m ≡ seek_number → ⊥)) (λ m q l. quiet_looks m q l (matches seek.on.pairs l table)) (λ x. refl) lefts done rest e is) [
+          | inl i ↦ from_below i (of_left i.before i.behind i.here i.is
+              (λ m l h. agree m (omega (arith, l)) (omega (arith, h)) ∙ ap length (i.same m ((λ z. omega (arith, z, l)), (λ z. omega (arith, z, h))))))
+          | inr i ↦ elim (in_looks i.row (matches seek.on.pairs i.row table) i.first i.rest e i.is) [
+            | inl own ↦ own_noted whole n e some own
+            | inr s ↦ seek_noted done i.row i.earlier (rows_of (n + 1) (e ∷ rest)) e s (i.last ((λ z. omega (arith, z)), (λ z. omega (arith, z, size_pos left)))) all
+                (agree (n + 1) (omega arith) (omega (arith, size_pos left)))
+          ]
+        ]
+      where
+        from_below : (i : FromBelow (n + 1) (read seek_number finds) lefts done e (λ m. (m ≡ n → ⊥) × (m ≡ seek_number → ⊥))) → Noted db K left (n + 1) i.here → Noted db K whole n e
+        from_below i h = by (eqb i.here.taken.node (n + 1)) refl i.read_is
+          where
+            by : (b : Bool) → eqb i.here.taken.node (n + 1) ≡ b → e ≡ (if b then read seek_number finds i.here else i.here) → Noted db K whole n e
+            by true own e_is =
+                let at : i.here.taken.node ≡ n + 1 = eqb-true i.here.taken.node (n + 1) own in
+                let past : eqb i.here.taken.node seek_number ≡ false = neq-eqb i.here.taken.node seek_number (λ z. omega (arith, z, at, size_pos left)) in
+                let unread : eqb seek_number n ≡ false = neq-eqb seek_number n (λ z. omega (arith, z)) in
+                subst (Noted db K whole n) (sym e_is) (record {
+                  all = (
+                    record { settles = rw (past, unread) refl; worst = rw unread refl },
+                    record { settles = rw (own, eq-eqb seek_number seek_number refl) refl; worst = λ w. rw (eq-eqb seek_number seek_number refl) (max_zero w) },
+                    apart-noted db K (taken_read seek_number (finds i.here.row) 0 i.here.taken) i.here.row left (n + 1) (record { node = inl (omega (arith, at)); reader = inr (omega arith) }),
+                  );
+                  low = omega (arith, h.low);
+                  high = omega (arith, h.high);
+                  reader = inr (omega arith, omega arith);
+                })
+            by false other e_is =
+                let past : eqb i.here.taken.node seek_number ≡ false = neq-eqb i.here.taken.node seek_number (λ z. omega (arith, z, h.high)) in
+                let unread : eqb i.here.taken.reader n ≡ false = reads_other n (n + 1) i.here.taken some (omega arith) (n + 1 + size left) h.reader in
+                let unsought : eqb i.here.taken.reader seek_number ≡ false =
+                neq-eqb i.here.taken.reader seek_number (λ z. elim h.reader [ inl p ↦ omega (arith, p, z) | inr q ↦ omega (arith, q.1, z) ]) in
+                subst (Noted db K whole n) (sym e_is) (record {
+                  all = (
+                    record { settles = rw (past, unread) refl; worst = rw unread refl },
+                    record { settles = rw (other, unsought) refl; worst = λ w. rw unsought refl },
+                    h.all,
+                  );
+                  low = omega (arith, h.low);
+                  high = omega (arith, h.high);
+                  reader = elim h.reader [ inl p ↦ inl p | inr q ↦ inr (omega (arith, q.0), omega (arith, q.1)) ];
+                })
+
 -- ---- any tree
 
 taken_in-history : (op : Unary) (n : ℕ) (rows : List Row) (es : List Coming) → taken_in n (settled_by_row op) rows es
@@ -343,6 +471,22 @@ entered-history n r columns rows [] = refl
 entered-history n r columns rows (e ∷ es) = rw (entered-history n r columns (rows ++ e.row ∷ []) es, entered-history n r columns rows es) refl
 
 module _ (db : Db) (K : Counts) where
+  -- a child that is read in first, and then the rows of its own
+  module _ (op : Unary) (child : Tree) (n : ℕ) (run : is_run child ≡ true) (some : 1 ≤ n)
+      (deeper : (done left : List Coming) (e : Coming) → done ++ e ∷ left ≡ coming db child (n + 1) → Agree K done (n + 1) (n + 1 + size child) → Noted db K child (n + 1) e) where
+    read_in_noted : (done left : List Coming) (e : Coming)
+        → done ++ e ∷ left ≡ taken_in n (settled_by_row op) [] (coming db child (n + 1)) ++ rows_by n false (rows_over op (rows_in (n + 1) (coming db child (n + 1))))
+        → Agree K done n (n + (1 + size child)) → Noted db K (Over op child) n e
+    read_in_noted done left e is agree =
+        let below : List Coming = coming db child (n + 1) in
+        let out : List Row = rows_over op (rows_in (n + 1) below) in
+        elim (cut-append done left (taken_in n (settled_by_row op) [] below) (rows_by n false out) e is) [
+          | inl p ↦
+              taken_in_noted db K op child n some below (output db child) (ap (rows_at (n + 1)) (event-coming db child (n + 1) run) ∙ rows_at-events db child (n + 1)) refl deeper
+              done p.0 e (p.1 ∙ taken_in-history op n [] below) agree
+          | inr p ↦ own_noted db K (Over op child) n e some (row_taken n false out p.0 left e p.2)
+        ]
+
   pub coming_noted : (t : Tree) (n : ℕ) → is_run t ≡ true → 1 ≤ n → (done left : List Coming) (e : Coming) → done ++ e ∷ left ≡ coming db t n
       → Agree K done n (n + size t) → Noted db K t n e
   coming_noted (Scan table label) n run some done left e is agree = own_noted db K (Scan table label) n e some (row_taken n true (table_rows db table) done left e is)
@@ -353,7 +497,8 @@ module _ (db : Db) (K : Counts) where
       streamed_noted db K (Project columns) child n some (settled_by_row (Project columns) []) (λ rows row. refl) (λ row. rows_over (Project columns) (row ∷ [])) (coming db child (n + 1))
       (coming_noted child (n + 1) (run_below (Project columns) child run) (omega arith)) done left e is agree
   coming_noted (Over (Sort keys) child) n run some done left e is agree = absurd cc
-  coming_noted (Over (Group keys items) child) n run some done left e is agree = absurd cc
+  coming_noted (Over (Group keys items) child) n run some done left e is agree =
+      read_in_noted (Group keys items) child n (run_below (Group keys items) child run) some (coming_noted child (n + 1) (run_below (Group keys items) child run) (omega arith)) done left e is agree
   coming_noted (Join (Hash pad) on lt rt) n run some done left e is agree =
       let r : ℕ = right_number n lt in
       let runs = run_sides (Hash pad) on lt rt run in
@@ -372,4 +517,11 @@ module _ (db : Db) (K : Counts) where
         | inr p ↦ left_noted db K pad on lt rt n some lefts rights ran lw rwi of_left of_right done p.0 left e (p.1 ∙ ap (λ s. s ++ p.0) (entered-history n r (right_columns on.pairs) [] rights)) p.2 agree
       ]
   coming_noted (Join Merge on lt rt) n run some done left e is agree = absurd cc
-  coming_noted (Index lt seek c) n run some done left e is agree = absurd cc
+  coming_noted (Index lt seek c) n run some done left e is agree =
+      let r : ℕ = right_number n lt in
+      let t : Tree = Index lt seek c in
+      let all : map event_of (coming db t n) ≡ events db t n = event-coming db t n run in
+      let lefts : rows_of (n + 1) (coming db t n) ≡ output db lt =
+      ap (rows_at (n + 1)) all ∙ EachAt-root (λ u m. rows_at m (events db t n) ≡ output db u) (λ u k m. rows_at (right_number m u) (events db t n) ≡ sought db k (output db u)) lt (n + 1) (events_each db t n).2 in
+      sought_noted db K lt seek c n some (coming db lt (n + 1)) (coming_noted lt (n + 1) run (omega arith)) done left e is
+      (sym (rows_of-append (n + 1) done (e ∷ left)) ∙ ap (rows_of (n + 1)) is ∙ lefts) agree

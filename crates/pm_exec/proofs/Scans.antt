@@ -11,7 +11,7 @@ use Rattle.pm_values.specs.Table.{Relation, FitsColumns, IsRelation}
 use Rattle.pm_exec.specs.Coming.{taken_by, rows_by}
 use Rattle.pm_exec.specs.ScanFlow.{nulls, last_of}
 
-length_fits : (columns : List ColumnDecl) (row : Row) → FitsColumns columns row → length row ≡ length columns
+pub length_fits : (columns : List ColumnDecl) (row : Row) → FitsColumns columns row → length row ≡ length columns
 length_fits [] [] f = refl
 length_fits [] (v ∷ row) f = absurd f
 length_fits (column ∷ columns) [] f = absurd f

@@ -1,5 +1,5 @@
 -- the next event of an iterator over another
-use Rattle.std.proofs.Common.{◌≡◌, ℕ, ◌+◌, ◌<◌, ◌≤◌, Bool, true, false, cond, eqb, arith, inl, inr, List, [], ◌∷◌, ◌++◌, length, refl, ap, sym, ◌∙◌}
+use Rattle.std.proofs.Common.{◌≡◌, ℕ, ◌+◌, Bool, true, false, eqb, arith, inl, inr, List, [], ◌∷◌, ◌++◌, length, refl, ap, sym, ◌∙◌}
 use Rattle.std.specs.Prelude.{slice_get, Some, if◌then◌else◌}
 use Rattle.std.proofs.lemmas.Option.{get_or_from_slice_get, slice_get_within}
 use Rattle.std.proofs.lemmas.List.{get_or-map}
@@ -8,7 +8,7 @@ use Rattle.std.proofs.lemmas.Bool.Decides.{eqb_tells}
 use Rattle.pm_values.specs.declared.value.Value.TheVariants.{Null}
 use Rattle.pm_values.specs.Row.{Row, cell, pick}
 use Rattle.pm_exec.specs.declared.taken.Taken.{Taken}
-use Rattle.pm_exec.specs.Coming.{Coming, taken_by, taken_read, rows_by, read, after}
+use Rattle.pm_exec.specs.Coming.{Coming, taken_by, taken_read, read, after}
 use Rattle.pm_exec.specs.Flow.{Flow, is_free_by, TakesOne}
 
 pub neq-eqb : (a b : ℕ) → (a ≡ b → ⊥) → eqb a b ≡ false

@@ -7,8 +7,16 @@ pub mod ProjectFlow
 pub mod SideFlow
 pub mod BuildFlow
 pub mod HashFlow
+pub mod Sought
+pub mod LookupFlow
+pub mod IndexFlow
 pub mod KeyColumns
 pub mod Noted
+pub mod Growing
+pub mod GroupFlow
+pub mod Indexes
+pub mod InnerSide
+pub mod Gauged
 pub mod IterFlow
 pub mod Plan
 pub mod Ran

@@ -1,4 +1,4 @@
-use Rattle.std.proofs.Common.{rules, ◌≡◌, ◌<◌, length, sym, ◌∙◌}
+use Rattle.std.proofs.Common.{rules, ◌<◌, length, sym, ◌∙◌}
 use Rattle.std.proofs.lemmas.Option.{get_or_from_slice_get, slice_get_within}
 use Rattle.pm_exec.proofs.Streams.{cell-pick}
 use Rattle.pm_exec.proofs.+cells.Goals as goal

@@ -1,0 +1,5 @@
+pub mod Text
+pub mod Pace
+pub mod IsMeter
+pub mod RunState
+pub mod IsRun
