@@ -1,4 +1,5 @@
 pub mod Percent
 pub mod Rows
 pub mod Progress
+pub mod Explained
 pub mod Refusals

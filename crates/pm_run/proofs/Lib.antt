@@ -1,0 +1,4 @@
+mod Paces
+mod Moments
+mod RootRows
+mod Turns

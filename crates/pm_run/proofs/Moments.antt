@@ -1,0 +1,89 @@
+-- the moments of a run over a plan that fits: their gauges are orderly, and what is shown of them is certified
+use Rattle.std.proofs.Common.{◌≡◌, ℕ, ◌+◌, ◌<◌, ◌≤◌, ◌^◌, List, length, refl, sym, ap, subst, ◌∙◌, arith}
+use Rattle.std.specs.Prelude.{All}
+use Rattle.pm_values.specs.Table.{IsRelation}
+use Rattle.pm_plan.specs.declared.gauge.Gauge.{Gauge}
+use Rattle.pm_plan.specs.declared.gauge.Bound.{Bound}
+use Rattle.pm_plan.specs.declared.gauge.Whole.{Whole}
+use Rattle.pm_plan.specs.declared.plan.Plan.{Plan}
+use Rattle.pm_plan.specs.Rows.{Db}
+use Rattle.pm_plan.specs.Tree.{Tree, size}
+use Rattle.pm_plan.specs.Preorder.{tree_of}
+use Rattle.pm_plan.proofs.Preorders.{length-nodes_of}
+use Rattle.pm_work.specs.Fits.{Fits, IsSound, sizes_of}
+use Rattle.pm_work.specs.First.{first_bound, most_work}
+use Rattle.pm_work.specs.Moments.{counts_at, gauge_in, gauges_at}
+use Rattle.pm_work.specs.Work.{whole_work, scanned_rows}
+use Rattle.pm_work.proofs.Gauges.{length-gauges_of}
+use Rattle.pm_work.proofs.Narrow.{narrow}
+use Rattle.pm_bounds.specs.Bounds.{bounds_of, whole_of}
+use Rattle.pm_bounds.specs.Moment.{AreGauges, AreGaugesOf}
+use Rattle.pm_bounds.proofs.Moments.{moment_gauges, moment_orderly}
+use Rattle.pm_estim.specs.Certified.{AreCertified, IsCertified}
+use Rattle.pm_estim.specs.Estimates.{shown_at, shown_of}
+use Rattle.pm_estim.specs.Lists.{pipes_in, driven_sum, AreOf}
+use Rattle.pm_estim.specs.declared.pipes.Pipe.{Pipe}
+use Rattle.pm_estim.proofs.Certain.{certified}
+use Rattle.pm_estim.proofs.Shown.{handed_is, hi_is}
+use Rattle.pm_run.specs.IsMeter.{IsMoment}
+
+module _ (plan : Plan) (db : Db) (fits : Fits plan db) (tables : All IsRelation db) where
+  abbrev tree : Tree
+  tree = tree_of plan.nodes
+
+  pub is_sound : IsSound db tree
+  is_sound = record { tables = tables; operators = fits.valid.operators; references = fits.references }
+
+  pub certain : AreCertified db tree
+  certain = certified db tree is_sound (narrow (sizes_of db) tree fits.narrow).sum
+
+  pub nodes_are : length plan.nodes ≡ size tree
+  nodes_are = ap length fits.valid.numbered ∙ length-nodes_of tree 1
+
+  pub gauges_long : (t : ℕ) → length (gauges_at db tree t) ≡ size tree
+  gauges_long t = length-gauges_of db (counts_at db tree t) tree 1
+
+  -- the gauges of a moment, as the bounds are computed from them
+  pub are_gauges : (t : ℕ) (gauges : List Gauge) → gauges ≡ gauges_at db tree t → AreGauges plan gauges
+  are_gauges t gauges is =
+      subst (AreGauges plan) (sym is)
+      (record {
+        db = db;
+        counts = counts_at db tree t;
+        are = record {
+          tables = tables;
+          fits = fits;
+          orderly = moment_orderly db tree is_sound t;
+          has_gauges = moment_gauges db tree t;
+          each_node = gauges_long t ∙ sym nodes_are;
+        };
+      })
+
+  -- the sums over the driver nodes are small
+  pub record DriversFit (pipes : List Pipe) (gauges : List Gauge) (bounds : List Bound) : Type 0 where
+    pub handed : driven_sum (λ g. g.handed) pipes gauges < 2 ^ 128
+    pub within : driven_sum (λ b. b.hi) pipes bounds < 2 ^ 128
+
+  pub drivers_fit : (t : ℕ) (pipes : List Pipe) (gauges : List Gauge) (bounds : List Bound) (whole : Whole) → 1 ≤ t → t ≤ whole_work db tree
+      → gauges ≡ gauges_at db tree t → AreOf tree pipes gauges bounds whole → DriversFit pipes gauges bounds
+  drivers_fit t pipes gauges bounds whole begun within is are =
+      let c : IsCertified (whole_work db tree) (scanned_rows db tree) (shown_at db tree t) = certain.each t begun within in
+      let handed = handed_is gauges tree pipes bounds whole are ∙ ap (λ gs. (shown_of tree (gauge_in gs)).dne_num) is in
+      let hi = hi_is gauges tree pipes bounds whole are ∙ ap (λ gs. (shown_of tree (gauge_in gs)).dne_den) is in
+      record {
+        handed = omega (arith, handed, c.driven, c.drivers_within, c.limited);
+        within = omega (arith, hi, c.drivers_within, c.limited);
+      }
+
+  -- what is shown of a moment
+  pub shown_moment : (t : ℕ) → 1 ≤ t → t ≤ whole_work db tree → IsMoment (whole_work db tree) t (shown_at db tree t)
+  shown_moment t begun within =
+      let c : IsCertified (whole_work db tree) (scanned_rows db tree) (shown_at db tree t) = certain.each t begun within in
+      record {
+        work = certain.work t within;
+        counted = c.enclosed.counted;
+        below = c.enclosed.below;
+        above = c.enclosed.above;
+        last = λ over. subst (λ k. (shown_at db tree k).hi ≡ whole_work db tree) (sym over) certain.ends.above;
+        limited = c.limited;
+      }

@@ -1,0 +1,6 @@
+pub mod Text
+pub mod ExplainText
+pub mod Pace
+pub mod IsMeter
+pub mod RunState
+pub mod IsRun
