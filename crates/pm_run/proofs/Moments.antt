@@ -1,6 +1,6 @@
 -- the moments of a run over a plan that fits: their gauges are orderly, and what is shown of them is certified
-use Rattle.std.proofs.Common.{◌≡◌, ℕ, ◌+◌, ◌<◌, ◌≤◌, ◌^◌, List, length, refl, sym, ap, subst, ◌∙◌, arith}
-use Rattle.std.specs.Prelude.{All}
+use Rattle.std.proofs.Common.{◌≡◌, ℕ, ◌<◌, ◌≤◌, ◌^◌, List, length, sym, ap, subst, ◌∙◌, arith}
+use Rattle.std.specs.Prelude.{All, min}
 use Rattle.pm_values.specs.Table.{IsRelation}
 use Rattle.pm_plan.specs.declared.gauge.Gauge.{Gauge}
 use Rattle.pm_plan.specs.declared.gauge.Bound.{Bound}
@@ -11,13 +11,13 @@ use Rattle.pm_plan.specs.Tree.{Tree, size}
 use Rattle.pm_plan.specs.Preorder.{tree_of}
 use Rattle.pm_plan.proofs.Preorders.{length-nodes_of}
 use Rattle.pm_work.specs.Fits.{Fits, IsSound, sizes_of}
-use Rattle.pm_work.specs.First.{first_bound, most_work}
+use Rattle.pm_work.specs.First.{first_sum, greatest, most_work}
 use Rattle.pm_work.specs.Moments.{counts_at, gauge_in, gauges_at}
 use Rattle.pm_work.specs.Work.{whole_work, scanned_rows}
 use Rattle.pm_work.proofs.Gauges.{length-gauges_of}
 use Rattle.pm_work.proofs.Narrow.{narrow}
 use Rattle.pm_bounds.specs.Bounds.{bounds_of, whole_of}
-use Rattle.pm_bounds.specs.Moment.{AreGauges, AreGaugesOf}
+use Rattle.pm_bounds.specs.Moment.{AreGauges}
 use Rattle.pm_bounds.proofs.Moments.{moment_gauges, moment_orderly}
 use Rattle.pm_estim.specs.Certified.{AreCertified, IsCertified}
 use Rattle.pm_estim.specs.Estimates.{shown_at, shown_of}
@@ -27,6 +27,9 @@ use Rattle.pm_estim.proofs.Certain.{certified}
 use Rattle.pm_estim.proofs.Shown.{handed_is, hi_is}
 use Rattle.pm_run.specs.IsMeter.{IsMoment}
 
+under : (top n most : ℕ) → n ≤ most → min top n ≤ most
+under top n most h = omega arith
+
 module _ (plan : Plan) (db : Db) (fits : Fits plan db) (tables : All IsRelation db) where
   abbrev tree : Tree
   tree = tree_of plan.nodes
@@ -35,7 +38,7 @@ module _ (plan : Plan) (db : Db) (fits : Fits plan db) (tables : All IsRelation 
   is_sound = record { tables = tables; operators = fits.valid.operators; references = fits.references }
 
   pub certain : AreCertified db tree
-  certain = certified db tree is_sound (narrow (sizes_of db) tree fits.narrow).sum
+  certain = certified db tree is_sound (under greatest (first_sum (sizes_of db) tree) most_work (narrow (sizes_of db) tree fits.narrow).sum)
 
   pub nodes_are : length plan.nodes ≡ size tree
   nodes_are = ap length fits.valid.numbered ∙ length-nodes_of tree 1
@@ -73,6 +76,17 @@ module _ (plan : Plan) (db : Db) (fits : Fits plan db) (tables : All IsRelation 
       record {
         handed = omega (arith, handed, c.driven, c.drivers_within, c.limited);
         within = omega (arith, hi, c.drivers_within, c.limited);
+      }
+
+  -- the lists of a moment
+  pub are_of : (t : ℕ) (pipes : List Pipe) (gauges : List Gauge) (bounds : List Bound) (whole : Whole) → pipes ≡ pipes_in tree → gauges ≡ gauges_at db tree t
+      → bounds ≡ bounds_of tree 1 (gauge_in (gauges_at db tree t)) → whole ≡ whole_of tree (gauge_in (gauges_at db tree t)) → AreOf tree pipes gauges bounds whole
+  are_of t pipes gauges bounds whole own is below sums =
+      record {
+        pipes_are = own;
+        each_node = ap length is ∙ gauges_long t;
+        bounds_are = below ∙ ap (λ gs. bounds_of tree 1 (gauge_in gs)) (sym is);
+        whole_is = sums ∙ ap (λ gs. whole_of tree (gauge_in gs)) (sym is);
       }
 
   -- what is shown of a moment

@@ -1,5 +1,5 @@
 -- the root's rows are what the kinds of the plan's columns say, and their texts are those of the columns
-use Rattle.std.proofs.Common.{◌≡◌, ℕ, zero, suc, ◌+◌, ◌<◌, ◌≤◌, Bool, true, false, cond, eqb, List, [], ◌∷◌, ◌++◌, length, map, take, get_or, refl, sym, ap, subst, ◌∙◌, arith}
+use Rattle.std.proofs.Common.{◌≡◌, ℕ, zero, suc, ◌+◌, ◌<◌, Bool, true, false, cond, eqb, List, [], ◌∷◌, ◌++◌, length, map, take, get_or, refl, sym, ap, subst, ◌∙◌, arith}
 use Rattle.std.proofs.lemmas.List.{take_more}
 use Rattle.std.proofs.lemmas.Option.{slice_get_within, get_or_from_slice_get}
 use Rattle.std.proofs.lemmas.List.Elements.{recursion_from_All}
@@ -46,8 +46,8 @@ root-fits ran fits tables is =
     let tree = tree_of ran.plan.nodes in
     let kinds = kinds_of (decls_of ran.db) tree in
     let rows : AllByRecursion (FitsKinds kinds) (rows_at 1 (events ran.db tree 1)) =
-        recursion_from_All (FitsKinds kinds) (rows_at 1 (events ran.db tree 1))
-        (subst (All (FitsKinds kinds)) (sym (rows_at-events ran.db tree 1)) (output_fits ran.db tables tree)) in
+    recursion_from_All (FitsKinds kinds) (rows_at 1 (events ran.db tree 1))
+    (subst (All (FitsKinds kinds)) (sym (rows_at-events ran.db tree 1)) (output_fits ran.db tables tree)) in
     subst (λ ks. FitsKinds ks (last_row ran)) (sym fits.valid.kinds) (row-last (FitsKinds kinds) 1 (events ran.db tree 1) ran.taken rows is)
 
 -- the text of one column

@@ -4,7 +4,7 @@ ghost use Rattle.pm_io.specs.Counts.{Rose};
 ghost use Rattle.pm_io.specs.Sink.{gained, GainsPart};
 ghost use Rattle.pm_plan.specs.Preorder.{tree_of, IsNumbered};
 ghost use Rattle.pm_work.specs.Moments.{gauge_in, gauges_at};
-ghost use Rattle.pm_bounds.specs.Bounds.{whole_of};
+ghost use Rattle.pm_bounds.specs.Bounds.{bounds_of, whole_of};
 ghost use Rattle.pm_estim.specs.Lists.{pipes_in};
 ghost use Rattle.pm_estim.specs.Estimates.{shown_at};
 ghost use Rattle.pm_exec.specs.Ran.{whole_work_of};
@@ -14,7 +14,7 @@ ghost use Rattle.pm_run.specs.IsMeter.{IsMeter, IsMoment};
 
 use pm_bounds::{bounds_all, whole};
 use pm_estim::{Pipes, estimate};
-use pm_exec::Exec;
+use pm_exec::{Exec, runs_fit};
 use pm_io::{Sink, WriteFault};
 use pm_lines::put_progress;
 use pm_plan::{Bound, Plan, Shown, Whole};
@@ -32,14 +32,10 @@ pub(crate) struct Meter {
 
 impl Meter {
     /// A meter before the first event.
-    pub(crate) fn of(
-        alloc: Global,
-        plan: &Plan,
-        every: Option<u64>,
-    ) -> Result<Meter, AllocError>
+    pub(crate) fn of(alloc: Global, plan: &Plan, every: Option<u64>) -> Result<Meter, AllocError>
         requires numbered { IsNumbered plan.now.nodes }
         requires every { IfSome every (λ n. 1 ≤ n) }
-        ensures { IfOk result (λ meter. meter.pipes ≡ pipes_in (tree_of plan.now.nodes)) }
+        ensures pipes { IfOk result (λ meter. meter.pipes ≡ pipes_in (tree_of plan.now.nodes)) }
         ensures room { IfOk result (λ meter. length meter.bounds.items ≡ length plan.now.nodes) }
         ensures every { IfOk result (λ meter. meter.every ≡ every) }
         ensures next { IfOk result (λ meter. meter.next ≡ 1) }
@@ -59,9 +55,11 @@ impl Meter {
         requires plan { plan.now ≡ exec.now.plan }
         requires room { length self.old.bounds.items ≡ length plan.now.nodes }
         ensures value { result ≡ whole_of (tree_of exec.now.plan.nodes) (gauge_in (gauges_at exec.now.db (tree_of exec.now.plan.nodes) exec.now.taken)) }
+        ensures written { self.new.bounds.items ≡ bounds_of (tree_of exec.now.plan.nodes) 1 (gauge_in (gauges_at exec.now.db (tree_of exec.now.plan.nodes) exec.now.taken)) }
         ensures bounds { self.new ≡ record self.old { bounds = self.new.bounds } }
         ensures room { length self.new.bounds.items ≡ length plan.now.nodes }
     {
+        runs_fit(exec);
         let gauges = exec.gauges();
         bounds_all(plan, gauges, self.bounds.as_mut_slice());
         whole(plan, gauges, self.bounds.as_slice())
@@ -77,6 +75,7 @@ impl Meter {
         ensures bounds { self.new ≡ record self.old { bounds = self.new.bounds } }
         ensures room { length self.new.bounds.items ≡ length plan.now.nodes }
     {
+        runs_fit(exec);
         let whole = self.whole(plan, exec);
         estimate(&self.pipes, exec.gauges(), self.bounds.as_slice(), &whole)
     }
@@ -101,6 +100,7 @@ impl Meter {
         let Some(every) = self.every else {
             return Ok(());
         };
+        runs_fit(exec);
         if exec.taken() < self.next {
             return Ok(());
         }

@@ -6,7 +6,7 @@ ghost use Rattle.pm_lines.specs.Rows.{row_line};
 ghost use Rattle.pm_exec.specs.Ran.{HasRootRow, last_row};
 ghost use Rattle.pm_run.specs.Text.{row_texts};
 
-use pm_exec::Exec;
+use pm_exec::{Exec, runs_fit};
 use pm_io::Sink;
 use pm_lines::{LineBad, put_row};
 use pm_values::{Kinds, Names, value_text};
@@ -37,6 +37,7 @@ fn texts_of_row(alloc: Global, exec: &Exec<'_>, kinds: &Kinds) -> Result<Names, 
     requires kinds { kinds.now ≡ exec.now.plan.kinds }
     ensures { IfOk result (λ texts. texts ≡ row_texts kinds.now (last_row exec.now)) }
 {
+    runs_fit(exec);
     let mut texts = Names::new(alloc);
     for column in 0..exec.root_width() {
         let kind = *kinds.at(column as usize);

@@ -6,6 +6,7 @@ ghost use Rattle.pm_plan.specs.Preorder.{tree_of};
 ghost use Rattle.pm_work.specs.Fits.{Fits};
 ghost use Rattle.pm_work.specs.Moments.{counts_at, gauge_in, gauges_at};
 ghost use Rattle.pm_bounds.specs.Bounds.{whole_of};
+ghost use Rattle.pm_exec.specs.Indexes.{index_of};
 ghost use Rattle.pm_exec.specs.KeyColumns.{join_columns};
 ghost use Rattle.pm_exec.specs.Plan.{is_run};
 ghost use Rattle.pm_run.specs.Text.{event_lines, head_text, end_text, run_text};
@@ -13,7 +14,7 @@ ghost use Rattle.pm_run.specs.RunState.{CanTurn, whole_work_in, turn_text};
 
 use crate::meter::Meter;
 use crate::turn::{Turn, take_turn, write_head};
-use pm_exec::{Exec, KeyColumns, key_columns};
+use pm_exec::{Exec, Indexes, KeyColumns, key_columns, runs_fit, seek_indexes};
 use pm_io::Sink;
 use pm_lines::LineBad;
 use pm_plan::{Plan, Whole};
@@ -58,22 +59,24 @@ impl<'a> Model for Run<'a> {
 }
 
 impl<'a> Run<'a> {
-    /// A run that has written nothing, which is lent the columns of the plan's keys. A progress line comes after each
+    /// A run that has written nothing, which is lent the columns of the plan's keys and its indexes. A progress line comes after each
     /// `every` events and at the last, and none at all without `every`. Only want of memory fails it.
     pub fn begin(
         alloc: Global,
         plan: &'a Plan,
         db: &'a Db,
         keys: &'a KeyColumns,
+        indexes: &'a Indexes<'a>,
         every: Option<u64>,
     ) -> Result<Run<'a>, AllocError>
         requires fits { Fits plan.now db.now }
         requires keys { keys.now ≡ map join_columns plan.now.nodes }
+        requires indexes { indexes.now ≡ map (index_of db.now) plan.now.nodes }
         requires run { is_run (tree_of plan.now.nodes) ≡ true }
         requires every { IfSome every (λ n. 1 ≤ n) }
         ensures { IfOk result (λ run. run ≡ record { plan = plan.entry.now; db = db.entry.now; every = every; taken = 0; stage = Stage.Fresh }) }
     {
-        let exec = Exec::begin(alloc, plan, db, keys)?;
+        let exec = Exec::begin(alloc, plan, db, keys, indexes)?;
         let meter = Meter::of(alloc, plan, every)?;
         Ok(Run {
             alloc,
@@ -128,6 +131,7 @@ impl<'a> Run<'a> {
         ensures failed { result ≡ Err LineBad.Write → self.old.stage ≡ Stage.Going → Rose (S.faults sink.old) (S.faults sink.new) }
         ensures faults { S.faults sink.old ≤ S.faults sink.new }
     {
+        runs_fit(&self.exec);
         if let Stage::Spent(fault) = self.stage {
             return Err(fault);
         }
@@ -184,7 +188,31 @@ pub fn run_all<S: Sink>(
     ensures faults { S.faults sink.old ≤ S.faults sink.new }
 {
     let keys = key_columns(alloc, plan)?;
-    let mut run = Run::begin(alloc, plan, db, &keys, every)?;
+    let indexes = seek_indexes(alloc, plan, db, &keys)?;
+    run_over(alloc, plan, db, &keys, &indexes, every, sink)
+}
+
+/// The same, with the columns of the plan's keys and its indexes.
+fn run_over<S: Sink>(
+    alloc: Global,
+    plan: &Plan,
+    db: &Db,
+    keys: &KeyColumns,
+    indexes: &Indexes<'_>,
+    every: Option<u64>,
+    sink: &mut S,
+) -> Result<(), LineBad>
+    requires fits { Fits plan.now db.now }
+    requires keys { keys.now ≡ map join_columns plan.now.nodes }
+    requires indexes { indexes.now ≡ map (index_of db.now) plan.now.nodes }
+    requires run { is_run (tree_of plan.now.nodes) ≡ true }
+    requires every { IfSome every (λ n. 1 ≤ n) }
+    ensures whole { OnOk result (S.written sink.new ≡ gained (S.written sink.old) (run_text plan.now db.now every)) }
+    ensures part { OnErr result (GainsPart (S.written sink.old) (S.written sink.new) (run_text plan.now db.now every)) }
+    ensures failed { result ≡ Err LineBad.Write → Rose (S.faults sink.old) (S.faults sink.new) }
+    ensures faults { S.faults sink.old ≤ S.faults sink.new }
+{
+    let mut run = Run::begin(alloc, plan, db, keys, indexes, every)?;
     run.head(sink)?;
     loop {
         match run.turn(sink)? {

@@ -23,11 +23,7 @@ pub enum Turn {
 }
 
 /// Writes the plan and header lines.
-pub(crate) fn write_head<S: Sink>(
-    alloc: Global,
-    sink: &mut S,
-    plan: &Plan,
-) -> Result<(), LineBad>
+pub(crate) fn write_head<S: Sink>(alloc: Global, sink: &mut S, plan: &Plan) -> Result<(), LineBad>
     ensures whole { OnOk result (S.written sink.new ≡ gained (S.written sink.old) (head_text plan.now)) }
     ensures part { OnErr result (GainsPart (S.written sink.old) (S.written sink.new) (head_text plan.now)) }
     ensures failed { result ≡ Err LineBad.Write → Rose (S.faults sink.old) (S.faults sink.new) }

@@ -1,0 +1,53 @@
+use Rattle.std.proofs.Common.{◌≡◌, ◌+◌, ◌≤◌, true, false, length, sym, ap, subst, ◌∙◌, arith}
+use Rattle.std.proofs.lemmas.Result.{on_err_weaker}
+use Rattle.std.specs.Prelude.{Some, IfSome}
+use Rattle.pm_io.specs.Sink.{GainsPart}
+use Rattle.pm_lines.specs.Progress.{progress_line}
+use Rattle.pm_exec.specs.Ran.{whole_work_of}
+use Rattle.pm_run.specs.Text.{is_due}
+use Rattle.pm_run.specs.Pace.{IsQuiet}
+use Rattle.pm_run.specs.declared.meter.Meter.{Meter}
+use Rattle.pm_run.proofs.Paces.{due-same, nothing-due, line-due}
+use Rattle.pm_run.proofs.meter.Meter.write_line.Goals as goal
+
+pub returns-then-taken-self-clause-whole : goal.returns-then-taken-self-clause-whole
+returns-then-taken-self-clause-whole g c =
+    let e = c.args.exec.now in
+    nothing-due e.plan e.db c.args.self.now.every e.taken (g.S.Sink.written c.args.sink.now)
+    (c.requires.before.quiet e.taken (omega arith) (omega (arith, c.taken.ensures, c.if-taken-self.true)))
+
+pub returns-else-is_due-clause-whole : goal.returns-else-is_due-clause-whole
+returns-else-is_due-clause-whole g c =
+    let e = c.args.exec.now in
+    let none : is_due c.args.self.now.every (whole_work_of e) e.taken ≡ false =
+    ap (λ o. is_due o (whole_work_of e) e.taken) c.in-Some.is
+    ∙ sym (due-same c.in-Some.every (whole_work_of e) e.taken c.shown-shown.result c.shown-shown.ensures.moment)
+    ∙ sym c.is_due.ensures ∙ c.if-is_due.false in
+    nothing-due e.plan e.db c.args.self.now.every e.taken (g.S.Sink.written c.args.sink.now) none
+
+pub returns-then-is_due-clause-part : goal.returns-then-is_due-clause-part
+returns-then-is_due-clause-part g c =
+    let e = c.args.exec.now in
+    let written = g.S.Sink.written in
+    let old = written c.args.sink.now in
+    let new = written c.put_progress.new.sink in
+    let due : is_due c.args.self.now.every (whole_work_of e) e.taken ≡ true =
+    ap (λ o. is_due o (whole_work_of e) e.taken) c.in-Some.is
+    ∙ sym (due-same c.in-Some.every (whole_work_of e) e.taken c.shown-shown.result c.shown-shown.ensures.moment)
+    ∙ sym c.is_due.ensures ∙ c.if-is_due.true in
+    on_err_weaker c.put_progress.result
+    (λ (p : GainsPart old new (progress_line c.shown-shown.result)). subst (GainsPart old new) (line-due e.plan e.db c.args.self.now.every e.taken c.shown-shown.result due c.shown-shown.ensures.value) p)
+    c.put_progress.ensures.part
+
+pub returns-then-is_due-clause-after : goal.returns-then-is_due-clause-after
+returns-then-is_due-clause-after g c =
+    let e = c.args.exec.now in
+    let m = c.shown-shown.ensures in
+    let quiet : IsQuiet (Some c.in-Some.every) (whole_work_of e) (e.taken + 1) c.next_look-self.result =
+    subst (λ k. IsQuiet (Some c.in-Some.every) (whole_work_of e) (k + 1) c.next_look-self.result) m.moment.work (c.next_look-self.ensures (whole_work_of e) m.moment.below) in
+    record {
+      pipes = ap (λ (x : Meter). x.pipes) m.bounds ∙ c.requires.before.pipes;
+      room = m.room ∙ ap (λ p. length p.nodes) c.requires.plan;
+      every = subst (λ o. IfSome o (λ n. 1 ≤ n)) (sym (ap (λ (x : Meter). x.every) m.bounds)) c.requires.before.every;
+      quiet = subst (λ o. IsQuiet o (whole_work_of e) (e.taken + 1) c.next_look-self.result) (sym (ap (λ (x : Meter). x.every) m.bounds ∙ c.in-Some.is)) quiet;
+    }
