@@ -9,6 +9,8 @@ pub mod IndexSteps
 pub mod Notes
 pub mod Noting
 pub mod GaugeLists
+pub mod Groups
+pub mod GroupSteps
 pub mod Comings
 pub mod Begins
 pub mod Joins

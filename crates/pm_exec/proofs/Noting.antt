@@ -471,6 +471,22 @@ entered-history n r columns rows [] = refl
 entered-history n r columns rows (e ∷ es) = rw (entered-history n r columns (rows ++ e.row ∷ []) es, entered-history n r columns rows es) refl
 
 module _ (db : Db) (K : Counts) where
+  -- a child that is read in first, and then the rows of its own
+  module _ (op : Unary) (child : Tree) (n : ℕ) (run : is_run child ≡ true) (some : 1 ≤ n)
+      (deeper : (done left : List Coming) (e : Coming) → done ++ e ∷ left ≡ coming db child (n + 1) → Agree K done (n + 1) (n + 1 + size child) → Noted db K child (n + 1) e) where
+    read_in_noted : (done left : List Coming) (e : Coming)
+        → done ++ e ∷ left ≡ taken_in n (settled_by_row op) [] (coming db child (n + 1)) ++ rows_by n false (rows_over op (rows_in (n + 1) (coming db child (n + 1))))
+        → Agree K done n (n + (1 + size child)) → Noted db K (Over op child) n e
+    read_in_noted done left e is agree =
+        let below : List Coming = coming db child (n + 1) in
+        let out : List Row = rows_over op (rows_in (n + 1) below) in
+        elim (cut-append done left (taken_in n (settled_by_row op) [] below) (rows_by n false out) e is) [
+          | inl p ↦
+              taken_in_noted db K op child n some below (output db child) (ap (rows_at (n + 1)) (event-coming db child (n + 1) run) ∙ rows_at-events db child (n + 1)) refl deeper
+              done p.0 e (p.1 ∙ taken_in-history op n [] below) agree
+          | inr p ↦ own_noted db K (Over op child) n e some (row_taken n false out p.0 left e p.2)
+        ]
+
   pub coming_noted : (t : Tree) (n : ℕ) → is_run t ≡ true → 1 ≤ n → (done left : List Coming) (e : Coming) → done ++ e ∷ left ≡ coming db t n
       → Agree K done n (n + size t) → Noted db K t n e
   coming_noted (Scan table label) n run some done left e is agree = own_noted db K (Scan table label) n e some (row_taken n true (table_rows db table) done left e is)
@@ -481,7 +497,8 @@ module _ (db : Db) (K : Counts) where
       streamed_noted db K (Project columns) child n some (settled_by_row (Project columns) []) (λ rows row. refl) (λ row. rows_over (Project columns) (row ∷ [])) (coming db child (n + 1))
       (coming_noted child (n + 1) (run_below (Project columns) child run) (omega arith)) done left e is agree
   coming_noted (Over (Sort keys) child) n run some done left e is agree = absurd cc
-  coming_noted (Over (Group keys items) child) n run some done left e is agree = absurd cc
+  coming_noted (Over (Group keys items) child) n run some done left e is agree =
+      read_in_noted (Group keys items) child n (run_below (Group keys items) child run) some (coming_noted child (n + 1) (run_below (Group keys items) child run) (omega arith)) done left e is agree
   coming_noted (Join (Hash pad) on lt rt) n run some done left e is agree =
       let r : ℕ = right_number n lt in
       let runs = run_sides (Hash pad) on lt rt run in

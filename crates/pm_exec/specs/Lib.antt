@@ -12,6 +12,8 @@ pub mod LookupFlow
 pub mod IndexFlow
 pub mod KeyColumns
 pub mod Noted
+pub mod Growing
+pub mod GroupFlow
 pub mod Indexes
 pub mod InnerSide
 pub mod Gauged

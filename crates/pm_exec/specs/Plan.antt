@@ -7,15 +7,17 @@ use Rattle.pm_values.specs.declared.condition.Cond.{Cond}
 use Rattle.pm_plan.specs.declared.plan.Node.{Node}
 use Rattle.pm_plan.specs.declared.plan.Pair.{Pair}
 use Rattle.pm_plan.specs.Rows.{Db, table_rows, decls_of}
+use Rattle.pm_plan.specs.declared.plan.Aggregate.{Aggregate}
 use Rattle.pm_plan.specs.Joins.{left_columns, right_columns}
-use Rattle.pm_plan.specs.Tree.{Unary, Filter, Project, Sort, Group, Method, Hash, Merge, Tree, Scan, Over, Join, Index, streams, right_number}
+use Rattle.pm_plan.specs.Tree.{Unary, Filter, Project, Sort, Group, Method, Hash, Merge, Tree, Scan, Over, Join, Index, Each, streams, right_number}
 use Rattle.pm_plan.specs.Preorder.{IsTreeAt}
 use Rattle.pm_plan.specs.Kinds.{width}
-use Rattle.pm_plan.specs.Outputs.{rows_over}
+use Rattle.pm_plan.specs.Outputs.{output, rows_over}
 use Rattle.pm_plan.specs.Valid.{is_source, IsValidTree}
 use Rattle.pm_work.specs.Events.{events}
 use Rattle.pm_work.specs.Changes.{settled_by_row}
 use Rattle.pm_exec.specs.Coming.{Coming, taken_read, rows_by, rows_in, streamed}
+use Rattle.pm_blocks.specs.Limits.{AreFew, IsWithin}
 use Rattle.pm_exec.specs.Hashed.{hashed}
 use Rattle.pm_exec.specs.Sought.{IsWellFormedIf, looked_up}
 use Rattle.pm_exec.specs.Flow.{Flow}
@@ -44,7 +46,7 @@ abbrev pub is_run_over : Unary → Bool
 is_run_over (Filter cond) = true
 is_run_over (Project columns) = true
 is_run_over (Sort keys) = false
-is_run_over (Group keys items) = false
+is_run_over (Group keys items) = true
 
 abbrev pub is_run_method : Method → Bool
 is_run_method (Hash pad) = true
@@ -72,7 +74,24 @@ ends_free (Over op child) = streams op && ends_free child
 ends_free (Join method on left right) = ends_free left && ends_free right
 ends_free (Index left seek cond) = ends_free left
 
--- a valid tree of these operators stands at node n of the list, and its events can be counted in 128 bits
+-- a group reads few enough rows for its aggregates
+abbrev pub reads_few : Unary → List Row → Type 0
+reads_few (Filter cond) rows = Unit {0}
+reads_few (Project columns) rows = Unit {0}
+reads_few (Sort keys) rows = Unit {0}
+reads_few (Group keys items) rows = AreFew items rows
+
+abbrev pub reads_few_at : Db → Tree → Type 0
+reads_few_at db (Scan table label) = Unit {0}
+reads_few_at db (Over op child) = reads_few op (output db child)
+reads_few_at db (Join method on left right) = Unit {0}
+reads_few_at db (Index left seek cond) = Unit {0}
+
+-- each group of the tree does
+abbrev pub GroupsReadFew : Db → Tree → Type 0
+GroupsReadFew db tree = Each (reads_few_at db) (λ left seek. Unit {0}) tree
+
+-- a valid tree of these operators stands at node n of the list, its events can be counted in 128 bits, and its groups read few enough rows
 pub record IsRunnable (nodes : List Node) (db : Db) (n : ℕ) : Type 0 where
   pub some : 1 ≤ n
   pub tree : Tree
@@ -81,6 +100,7 @@ pub record IsRunnable (nodes : List Node) (db : Db) (n : ℕ) : Type 0 where
   pub operators : IsValidTree (decls_of db) tree
   pub run : is_run tree ≡ true
   pub few : length (events db tree n) < 2 ^ 128
+  pub groups : GroupsReadFew db tree
 
 -- an iterator of the tree's root, which has number n, has all events to come
 pub record IsFresh (db : Db) (tree : Tree) (n : ℕ) (f : Flow) : Type 0 where
@@ -90,12 +110,19 @@ pub record IsFresh (db : Db) (tree : Tree) (n : ℕ) (f : Flow) : Type 0 where
   pub free_end : f.free_end ≡ ends_free tree
   pub width : length f.hand ≡ width (decls_of db) tree
 
+-- what a group asks of its child's rows, which have so many columns
+pub record CanGroup (keys : List ℕ) (items : List Aggregate) (wide : ℕ) (rows : List Row) : Type 0 where
+  pub keys_within : AllBelow keys wide
+  pub items_within : All (IsWithin wide) items
+  pub narrow : length keys + length items < 2 ^ 32
+  pub few : AreFew items rows
+
 -- what an operator asks of the rows of its child
-abbrev pub CanRead : Unary → ℕ → Type 0
-CanRead (Filter cond) wide = IsWellFormed wide cond
-CanRead (Project columns) wide = AllBelow columns wide
-CanRead (Sort keys) wide = Unit {0}
-CanRead (Group keys items) wide = Unit {0}
+abbrev pub CanRead : Unary → ℕ → List Row → Type 0
+CanRead (Filter cond) wide rows = IsWellFormed wide cond
+CanRead (Project columns) wide rows = AllBelow columns wide
+CanRead (Sort keys) wide rows = Unit {0}
+CanRead (Group keys items) wide rows = CanGroup keys items wide rows
 
 -- how many columns its rows have
 abbrev pub wide_over : Unary → ℕ → ℕ

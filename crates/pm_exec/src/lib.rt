@@ -10,6 +10,7 @@ mod declared;
 mod exec;
 mod filter;
 mod gauges;
+mod group;
 mod hash;
 mod index;
 mod indexes;
@@ -26,6 +27,6 @@ mod tests;
 mod tick;
 
 pub use columns::{JoinColumns, KeyColumns, key_columns};
-pub use exec::Exec;
+pub use exec::{Exec, runs_fit};
 pub use indexes::{Indexes, seek_indexes};
 pub use tick::Tick;
