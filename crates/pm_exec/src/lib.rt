@@ -18,9 +18,11 @@ mod inner;
 mod iter;
 mod laws;
 mod lookup;
+mod part;
 mod project;
 mod scan;
 mod side;
+mod sort;
 mod taken;
 #[cfg(test)]
 mod tests;
