@@ -1,5 +1,5 @@
 -- the settings that words call for, by clap's own definitions of what a command takes and of its matches
-use Rattle.std.specs.Prelude.{◌≡◌, ◌∷◌, [], List, ℕ, Bool, true, false, Option, Some, None, Result, Ok, Err, codes, map, if◌then◌else◌, ⊤}
+use Rattle.std.specs.Prelude.{◌≡◌, ◌≤◌, ◌∷◌, [], List, ℕ, Bool, true, false, Option, Some, None, Result, Ok, Err, codes, map, if◌then◌else◌, ⊤}
 use Rattle.std.specs.Borrow.{Bor}
 use Rattle.std.specs.Str.{bytes_eq}
 use Rattle.std.specs.Str.Parse.{digits_value, without_leading_plus}
@@ -121,6 +121,12 @@ settings_by words verb = unless (fault_of (command_by_verb verb) words) (read_by
 -- what words call for, if anything
 unfoldable pub settings_of : List Text → Option Settings
 settings_of words = verb_in words >>= settings_by words
+
+-- the numbers of settings lie in the bounds of the options
+abbrev pub IsInRange : Settings → Type 0
+IsInRange (settings.Run s) = (1 ≤ s.every) × (1 ≤ s.workers) × (s.workers ≤ 64)
+IsInRange (settings.Explain s) = (1 ≤ s.workers) × (s.workers ≤ 64)
+IsInRange (settings.Demo s) = (1 ≤ s.size) × (s.size ≤ 100000) × (1 ≤ s.workers) × (s.workers ≤ 64)
 
 -- a reader's answer: the value, or Usage where there is none, or want of memory
 abbrev pub Reads : {T : Type 0} → Result T WordsBad → Option T → Type 0

@@ -1,8 +1,9 @@
 //! Settings from the matches of `clap`, and from the words.
-ghost use Rattle.std.specs.Prelude.{◌≡◌, IfOk, option_map};
+ghost use Rattle.std.specs.Prelude.{◌≡◌, ◌≤◌, IfOk, IfSome, option_map};
 ghost use Rattle.clap.specs.Walk.{rows_of};
 ghost use Rattle.clap.specs.Matches.{found_of};
-ghost use Rattle.pm_words.specs.Settings.{Reads, choice_at, choice_of, demo_of, explain_of, number, number_at, read_by, run_of, settings_of, switch_at, switch_of, texts_in, value_of, verb_in};
+ghost use Rattle.pm_words.specs.declared.settings.Settings.TheVariants as settings;
+ghost use Rattle.pm_words.specs.Settings.{IsInRange, Reads, choice_at, choice_of, demo_of, explain_of, number, number_at, read_by, run_of, settings_of, switch_at, switch_of, texts_in, value_of, verb_in};
 
 use crate::command::{command_of, matches_by};
 use crate::settings::{DemoSettings, ExplainSettings, RunSettings, Settings, Verb, WordsBad};
@@ -43,7 +44,8 @@ fn text_value(alloc: Global, matches: &ArgMatches, id: &str) -> Result<Txt, Word
 
 /// The number that a text writes, if it lies in the bounds.
 fn number(text: &str, low: u64, high: u64) -> Option<u64>
-    ensures { result ≡ number low high text.now }
+    ensures number { result ≡ number low high text.now }
+    ensures range { IfSome result (λ n. (low ≤ n) × (n ≤ high)) }
 {
     match text.parse::<u64>() {
         Ok(n) if low <= n && n <= high => Some(n),
@@ -52,7 +54,8 @@ fn number(text: &str, low: u64, high: u64) -> Option<u64>
 }
 
 fn number_value(matches: &ArgMatches, id: &str, low: u64, high: u64) -> Result<u64, WordsBad>
-    ensures { Reads result (number_at id.now low high (rows_of (found_of matches.now))) }
+    ensures value { Reads result (number_at id.now low high (rows_of (found_of matches.now))) }
+    ensures range { IfOk result (λ n. (low ≤ n) × (n ≤ high)) }
 {
     let Some(text) = only_value(matches, id) else {
         return Err(WordsBad::Usage);
@@ -111,7 +114,8 @@ fn switch_value(matches: &ArgMatches, id: &str) -> Result<bool, WordsBad>
 
 #[tactic(auto, unfolding(crate::specs::Settings::run_of))]
 fn run_settings(alloc: Global, matches: &ArgMatches) -> Result<RunSettings, WordsBad>
-    ensures { Reads result (run_of (rows_of (found_of matches.now))) }
+    ensures settings { Reads result (run_of (rows_of (found_of matches.now))) }
+    ensures range { IfOk result (λ s. IsInRange (settings.Run s)) }
 {
     let schema = text_value(alloc, matches, "schema")?;
     let query = text_value(alloc, matches, "query")?;
@@ -131,7 +135,8 @@ fn run_settings(alloc: Global, matches: &ArgMatches) -> Result<RunSettings, Word
 
 #[tactic(auto, unfolding(crate::specs::Settings::explain_of))]
 fn explain_settings(alloc: Global, matches: &ArgMatches) -> Result<ExplainSettings, WordsBad>
-    ensures { Reads result (explain_of (rows_of (found_of matches.now))) }
+    ensures settings { Reads result (explain_of (rows_of (found_of matches.now))) }
+    ensures range { IfOk result (λ s. IsInRange (settings.Explain s)) }
 {
     let schema = text_value(alloc, matches, "schema")?;
     let query = text_value(alloc, matches, "query")?;
@@ -147,7 +152,8 @@ fn explain_settings(alloc: Global, matches: &ArgMatches) -> Result<ExplainSettin
 
 #[tactic(auto, unfolding(crate::specs::Settings::demo_of))]
 fn demo_settings(matches: &ArgMatches) -> Result<DemoSettings, WordsBad>
-    ensures { Reads result (demo_of (rows_of (found_of matches.now))) }
+    ensures settings { Reads result (demo_of (rows_of (found_of matches.now))) }
+    ensures range { IfOk result (λ s. IsInRange (settings.Demo s)) }
 {
     let size = number_value(matches, "size", 1, MOST_CUSTOMERS)?;
     let workers = number_value(matches, "workers", 1, MOST_WORKERS)?;
@@ -156,7 +162,8 @@ fn demo_settings(matches: &ArgMatches) -> Result<DemoSettings, WordsBad>
 
 #[tactic(auto, unfolding(crate::specs::Settings::read_by))]
 fn settings_by(alloc: Global, verb: Verb, matches: &ArgMatches) -> Result<Settings, WordsBad>
-    ensures { Reads result (read_by verb (rows_of (found_of matches.now))) }
+    ensures range { IfOk result IsInRange }
+    ensures settings { Reads result (read_by verb (rows_of (found_of matches.now))) }
 {
     match verb {
         Verb::Run => Ok(Settings::Run(run_settings(alloc, matches)?)),
@@ -189,9 +196,11 @@ fn texts_of<'a>(alloc: Global, words: &'a [Txt]) -> Result<Vec<&'a str>, AllocEr
     Ok(texts)
 }
 
-/// The settings that the words call for: Usage exactly where they call for none, and Memory only for want of it.
+/// The settings that the words call for: Usage exactly where they call for none, and Memory only for want of it. Their numbers lie in
+/// the bounds of the options.
 pub fn read_words(alloc: Global, words: &[Txt]) -> Result<Settings, WordsBad>
-    ensures { Reads result (settings_of words.now) }
+    ensures settings { Reads result (settings_of words.now) }
+    ensures range { IfOk result IsInRange }
 {
     let Some(verb) = verb_in(words) else {
         return Err(WordsBad::Usage);
