@@ -1,0 +1,5 @@
+pub mod Commands
+pub mod Stops
+pub mod Calls
+pub mod Text
+pub mod Certified

@@ -1,0 +1,18 @@
+//! What a command asks for: the request, the plan and the output that the words and the files call for.
+//!
+//! `prepare` answers these, or the first refusal in the order of reading; specs/Calls says what words and files call for.
+//! `write` writes the text of what was prepared; specs/Text says what it is.
+#![tactic(auto)]
+
+mod command;
+mod demo;
+mod laws;
+mod preparing;
+mod stop;
+mod writing;
+
+pub use command::Output;
+pub use laws::{calls_once, ready_is_certified};
+pub use preparing::{Prepared, prepare};
+pub use stop::Stop;
+pub use writing::write;
