@@ -1,14 +1,1 @@
-pub mod BoundLists
-pub mod PipeLists
-pub mod Sums
-pub mod Drops
-pub mod TableRows
-pub mod Headed
-pub mod Counted
-pub mod Steps
-pub mod Declared
-pub mod UnderPlan
-pub mod RootRows
-pub mod Turns
-pub mod Certain
-pub mod TopCall
+pub mod Endings

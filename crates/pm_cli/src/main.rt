@@ -3,19 +3,15 @@
 //! `monitor_main` is the top call: its contract says what the program writes, and when each status comes.
 #![tactic(auto)]
 
-pub mod bounds;
-pub mod build;
-pub mod certified;
-pub mod estim;
-pub mod exec;
-pub mod run;
+pub mod lines;
 pub mod status;
 #[cfg(test)]
 mod tests;
 pub mod top;
 
-pub use pm_inputs::Role;
+
 use pm_io::{OsFiles, OsSink};
+pub use pm_requests::Role;
 use pm_values::{OpenGate, Txt};
 pub use status::Status;
 use std::alloc::{AllocError, Global};

@@ -1,10 +1,10 @@
 //! How a command ends.
-
 ghost use Rattle.std.specs.Prelude.{◌≡◌};
-ghost use Rattle.pm_cli.specs.Status.{code_of, status_of};
+ghost use Rattle.pm_cli.specs.Status.{code_of, refusal_status, status_of};
 
-use pm_inputs::{Refusal, Role};
+use pm_commands::Stop;
 use pm_refusals::Word;
+use pm_requests::{Refusal, Role};
 use pm_tables::DataBad;
 
 /// How a command ended.
@@ -18,6 +18,8 @@ pub enum Status {
     Schema { word: Word, at: u64 },
     /// The query's file is refused, as a schema's is.
     Query { word: Word, at: u64 },
+    /// The query asks for what the schema does not have, or breaks a rule of binding: why, and at which byte of its file, from 0.
+    Binding { word: Word, at: u64 },
     /// The file of this table, counted by its place in the schema from 0, is refused. The fault is never want of memory.
     Table { table: u32, fault: DataBad },
     /// There is no file of this role's name.
@@ -26,19 +28,28 @@ pub enum Status {
     ReadFault { role: Role },
     /// The output could not be written.
     WriteFault,
-    /// The query is not one that is run so far.
-    NotBuilt,
+    /// This first bound of the plan is too high: that of the whole work above 10^34, or that of the rows below a SUM above 10^18.
+    TooWide { bound: u128 },
     /// There was no memory.
     NoMemory,
 }
 
 impl Status {
-    /// The status of a command that stops before it has its table.
-    pub fn of(refusal: &Refusal) -> Status
-        ensures { result ≡ status_of refusal.now }
+    /// The status of a command that is stopped before it writes.
+    pub fn of(stop: &Stop) -> Status
+        ensures { result ≡ status_of stop.now }
+    {
+        match stop {
+            Stop::Usage => Status::Usage,
+            Stop::Request(refusal) => Status::of_refusal(refusal),
+            Stop::TooWide(bound) => Status::TooWide { bound: *bound },
+        }
+    }
+
+    fn of_refusal(refusal: &Refusal) -> Status
+        ensures { result ≡ refusal_status refusal.now }
     {
         match refusal {
-            Refusal::Usage => Status::Usage,
             Refusal::NoFile { role, .. } => Status::NoFile { role: *role },
             Refusal::ReadFault { role, .. } => Status::ReadFault { role: *role },
             Refusal::Schema(fault) => Status::Schema {
@@ -49,11 +60,14 @@ impl Status {
                 word: fault.word,
                 at: fault.at,
             },
+            Refusal::Binding(fault) => Status::Binding {
+                word: fault.word,
+                at: fault.at,
+            },
             Refusal::Table { table, fault, .. } => Status::Table {
                 table: *table,
                 fault: *fault,
             },
-            Refusal::NotBuilt => Status::NotBuilt,
             Refusal::NoMemory => Status::NoMemory,
         }
     }
@@ -67,11 +81,12 @@ impl Status {
             Status::Usage => 1,
             Status::Schema { .. } => 2,
             Status::Query { .. } => 3,
+            Status::Binding { .. } => 4,
             Status::Table { .. } => 5,
             Status::NoFile { .. } => 6,
             Status::ReadFault { .. } => 7,
             Status::WriteFault => 8,
-            Status::NotBuilt => 11,
+            Status::TooWide { .. } => 9,
             Status::NoMemory => 10,
         }
     }

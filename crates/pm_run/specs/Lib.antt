@@ -1,4 +1,5 @@
 pub mod Text
+pub mod ExplainText
 pub mod Pace
 pub mod IsMeter
 pub mod RunState

@@ -1,8 +1,0 @@
-use Rattle.std.proofs.Common.{◌≡◌, take}
-use Rattle.pm_cli.specs.Ticks.{last_row}
-use Rattle.pm_cli.specs.Text.{row_texts}
-use Rattle.pm_cli.proofs.run.texts_of_row.Given as goal
-
--- the texts so far
-abbrev pub invariant-loop-column : goal.invariant-loop-column
-invariant-loop-column l = l.texts ≡ take l.column (row_texts l.kinds (last_row l.exec))
