@@ -32,4 +32,3 @@ index::IndexJoin::push_parts-returns-clause-ok t c =
     (on_ok_weaker c.push_parts.result (λ (more : PutsRow a.left.held a.left.hand c.put.new.parts.items c.push_parts.new.parts.items).
     subst (λ r. PutsRow (held_beside wide a.left.held) (a.left.hand ++ r) c.args.parts.now.items c.push_parts.new.parts.items) row
     (puts_beside wide a.left.held a.left.hand c.of.result c.args.parts.now.items c.put.new.parts.items c.push_parts.new.parts.items is c.in_ok-put.ensures.ok more)) c.push_parts.ensures.ok)
-
