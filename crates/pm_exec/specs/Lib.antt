@@ -1,5 +1,6 @@
 pub mod Coming
 pub mod Hashed
+pub mod Held
 pub mod Flow
 pub mod ScanFlow
 pub mod FilterFlow
@@ -19,6 +20,8 @@ pub mod InnerSide
 pub mod Gauged
 pub mod IterFlow
 pub mod Plan
+pub mod SortFlow
 pub mod Ran
 pub mod Memory
 pub mod Running
+pub mod Worked

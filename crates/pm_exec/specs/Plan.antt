@@ -18,6 +18,7 @@ use Rattle.pm_work.specs.Events.{events}
 use Rattle.pm_work.specs.Changes.{settled_by_row}
 use Rattle.pm_exec.specs.Coming.{Coming, taken_read, rows_by, rows_in, streamed}
 use Rattle.pm_blocks.specs.Limits.{AreFew, IsWithin}
+use Rattle.pm_blocks.specs.SortedNumbers.{sort_columns}
 use Rattle.pm_exec.specs.Hashed.{hashed}
 use Rattle.pm_exec.specs.Sought.{IsWellFormedIf, looked_up}
 use Rattle.pm_exec.specs.Flow.{Flow}
@@ -45,7 +46,7 @@ coming_joined Merge pairs n r wide lefts rights = []
 abbrev pub is_run_over : Unary → Bool
 is_run_over (Filter cond) = true
 is_run_over (Project columns) = true
-is_run_over (Sort keys) = false
+is_run_over (Sort keys) = true
 is_run_over (Group keys items) = true
 
 abbrev pub is_run_method : Method → Bool
@@ -109,6 +110,7 @@ pub record IsFresh (db : Db) (tree : Tree) (n : ℕ) (f : Flow) : Type 0 where
   pub rest : f.rest ≡ coming db tree n
   pub free_end : f.free_end ≡ ends_free tree
   pub width : length f.hand ≡ width (decls_of db) tree
+  pub laid : length f.held.places ≡ length f.hand
 
 -- what a group asks of its child's rows, which have so many columns
 pub record CanGroup (keys : List ℕ) (items : List Aggregate) (wide : ℕ) (rows : List Row) : Type 0 where
@@ -121,7 +123,7 @@ pub record CanGroup (keys : List ℕ) (items : List Aggregate) (wide : ℕ) (row
 abbrev pub CanRead : Unary → ℕ → List Row → Type 0
 CanRead (Filter cond) wide rows = IsWellFormed wide cond
 CanRead (Project columns) wide rows = AllBelow columns wide
-CanRead (Sort keys) wide rows = Unit {0}
+CanRead (Sort keys) wide rows = AllBelow (sort_columns keys) wide
 CanRead (Group keys items) wide rows = CanGroup keys items wide rows
 
 -- how many columns its rows have
@@ -137,6 +139,7 @@ pub record IsOver (op : Unary) (n : ℕ) (child f : Flow) : Type 0 where
   pub rest : f.rest ≡ coming_over op n child.rest
   pub free_end : f.free_end ≡ (streams op && child.free_end)
   pub width : length f.hand ≡ wide_over op (length child.hand)
+  pub laid : length f.held.places ≡ length f.hand
 
 -- a valid scan, or a filter over one, stands at node n of the list
 pub record IsSideAt (nodes : List Node) (db : Db) (n : ℕ) : Type 0 where
@@ -157,6 +160,7 @@ pub record IsFreshSide (db : Db) (tree : Tree) (n : ℕ) (f : Flow) : Type 0 whe
 -- what a join asks of its sides, which have handed out nothing
 pub record CanJoin (n : ℕ) (pairs : List Pair) (l r : Flow) : Type 0 where
   pub left : l.node ≡ n + 1
+  pub laid : length l.held.places ≡ length l.hand
   pub numbered : n + 1 < 2 ^ 32
   pub right : n + 1 < r.node
   pub narrow : length l.hand + length r.hand < 2 ^ 32
@@ -174,6 +178,7 @@ pub record IsJoined (method : Method) (n : ℕ) (pairs : List Pair) (left right 
   pub rest : f.rest ≡ joined method n pairs left right
   pub free_end : f.free_end ≡ left.free_end
   pub width : length f.hand ≡ length left.hand + length right.hand
+  pub laid : length f.held.places ≡ length f.hand
 
 -- what an index join asks of its left side, which has handed out nothing, and of the table of its Seek
 pub record CanLookUp (n seek : ℕ) (cond : Option Cond) (pairs : List Pair) (table : Relation) (l : Flow) : Type 0 where
@@ -184,6 +189,7 @@ pub record CanLookUp (n seek : ℕ) (cond : Option Cond) (pairs : List Pair) (ta
   pub lefts : AllBelow (left_columns pairs) (length l.hand)
   pub well_formed : IsWellFormedIf (length l.hand + length table.decl.columns) cond
   pub few : length (looked_up cond n seek pairs table.rows [] l.rest) < 2 ^ 128
+  pub laid : length l.held.places ≡ length l.hand
 
 -- an iterator of node n, of an index join of this left side
 pub record IsLookedUp (n seek : ℕ) (cond : Option Cond) (pairs : List Pair) (table : Relation) (l f : Flow) : Type 0 where
@@ -191,3 +197,4 @@ pub record IsLookedUp (n seek : ℕ) (cond : Option Cond) (pairs : List Pair) (t
   pub rest : f.rest ≡ looked_up cond n seek pairs table.rows [] l.rest
   pub free_end : f.free_end ≡ l.free_end
   pub width : length f.hand ≡ length l.hand + length table.decl.columns
+  pub laid : length f.held.places ≡ length f.hand
