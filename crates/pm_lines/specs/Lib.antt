@@ -2,4 +2,3 @@ pub mod Percent
 pub mod Rows
 pub mod Progress
 pub mod Refusals
-pub mod Explained

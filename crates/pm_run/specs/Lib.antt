@@ -1,5 +1,4 @@
 pub mod Text
-pub mod ExplainText
 pub mod Pace
 pub mod IsMeter
 pub mod RunState

@@ -1,12 +1,10 @@
 //! A run of a plan that writes its text: plan and header lines, row and progress lines event by event, and the end line.
 #![tactic(auto)]
 
-mod explain;
 mod meter;
 mod row;
 mod run;
 mod turn;
 
-pub use explain::explain_all;
 pub use run::{Run, Stage, run_all};
 pub use turn::Turn;

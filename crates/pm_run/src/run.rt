@@ -180,6 +180,7 @@ pub fn run_all<S: Sink>(
     sink: &mut S,
 ) -> Result<(), LineBad>
     requires fits { Fits plan.now db.now }
+    requires run { is_run (tree_of plan.now.nodes) ≡ true }
     requires every { IfSome every (λ n. 1 ≤ n) }
     ensures whole { OnOk result (S.written sink.new ≡ gained (S.written sink.old) (run_text plan.now db.now every)) }
     ensures part { OnErr result (GainsPart (S.written sink.old) (S.written sink.new) (run_text plan.now db.now every)) }
@@ -204,6 +205,7 @@ fn run_over<S: Sink>(
     requires fits { Fits plan.now db.now }
     requires keys { keys.now ≡ map join_columns plan.now.nodes }
     requires indexes { indexes.now ≡ map (index_of db.now) plan.now.nodes }
+    requires run { is_run (tree_of plan.now.nodes) ≡ true }
     requires every { IfSome every (λ n. 1 ≤ n) }
     ensures whole { OnOk result (S.written sink.new ≡ gained (S.written sink.old) (run_text plan.now db.now every)) }
     ensures part { OnErr result (GainsPart (S.written sink.old) (S.written sink.new) (run_text plan.now db.now every)) }
