@@ -2,3 +2,4 @@ pub mod Percent
 pub mod Rows
 pub mod Progress
 pub mod Refusals
+pub mod Explained

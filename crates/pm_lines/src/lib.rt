@@ -4,12 +4,14 @@
 #![tactic(auto)]
 
 mod buffer;
+mod explained;
 mod fault;
 mod plan;
 mod progress;
 mod refusal;
 mod rows;
 
+pub use explained::{put_bound, put_first};
 pub use fault::LineBad;
 pub use plan::put_plan;
 pub use progress::{put_end, put_progress};
