@@ -1,0 +1,11 @@
+pub mod Stages
+pub mod Loaded
+pub mod Checked
+pub mod Limits
+pub mod Bound
+pub mod Sound
+pub mod Once
+pub mod Answered
+pub mod Lexed
+pub mod Real
+pub mod SomeAnswer
