@@ -1,0 +1,1 @@
+SELECT name FROM cust WHERE city = 'Paris'
