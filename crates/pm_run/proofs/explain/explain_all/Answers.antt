@@ -1,4 +1,4 @@
-use Rattle.std.proofs.Common.{◌≡◌, List, ℕ, ◌++◌, length, subst, sym, ap, ◌∙◌}
+use Rattle.std.proofs.Common.{◌≡◌, List, ◌++◌, length, subst, sym, ap, ◌∙◌}
 use Rattle.std.specs.List.{zip}
 use Rattle.pm_io.specs.Sink.{gained, GainsPart}
 use Rattle.pm_io.proofs.Outside.{gained-gained}
