@@ -30,5 +30,6 @@ mod tick;
 
 pub use columns::{JoinColumns, KeyColumns, key_columns};
 pub use exec::{Exec, runs_fit};
+pub use gauges::first_gauges;
 pub use indexes::{Indexes, seek_indexes};
 pub use tick::Tick;
