@@ -1,5 +1,5 @@
 -- a step of a group
-use Rattle.std.proofs.Common.{◌≡◌, ℕ, ◌+◌, ◌-◌, ◌<◌, ◌^◌, Bool, true, false, eqb, arith, List, [], ◌∷◌, ◌++◌, length, drop, get_or, refl, ap, sym, subst, ◌∙◌, drop-cons, add-one, append-nil}
+use Rattle.std.proofs.Common.{◌≡◌, ℕ, ◌+◌, ◌-◌, ◌<◌, ◌^◌, Bool, true, false, eqb, arith, List, [], ◌∷◌, ◌++◌, length, drop, get_or, replicate, refl, ap, sym, subst, ◌∙◌, drop-cons, add-one, append-nil}
 use Rattle.std.specs.Prelude.{Option, None, Some, All, IfSome, if◌then◌else◌}
 use Rattle.std.proofs.lemmas.Bool.{eq-eqb}
 use Rattle.std.proofs.lemmas.List.{append_assoc, length-append, length-replicate}
@@ -18,6 +18,9 @@ use Rattle.pm_exec.specs.Flow.{Flow, TakesOne, TakesNone, Takes, Keeps, is_free_
 use Rattle.pm_exec.specs.Growing.{groups_with, new_group, grouping}
 use Rattle.pm_exec.specs.GroupFlow.{HandsOne, HandsNone, Hands, HasWidth, IsGroup, IsReading, group_flow, group_hand, group_rest}
 use Rattle.pm_exec.specs.declared.group.Group.TheInside.{Inside}
+use Rattle.pm_exec.specs.declared.part.Part.TheVariants as part
+use Rattle.pm_exec.specs.Held.{KeepsRow}
+use Rattle.pm_exec.proofs.Kept.{grows_held, group_keeps, no_group_keeps, null_cells}
 use Rattle.pm_exec.proofs.Streams.{neq-eqb}
 use Rattle.pm_exec.specs.Plan.{CanGroup, coming_over}
 use Rattle.pm_exec.proofs.Groups.{grouped-wide, groups_with-grouped, length-groups_with, taken_in-grouping}
@@ -230,6 +233,7 @@ module _ (a : Inside) (is : IsGroup a) where
         width = hand-wide a.width core.groups group (subst (All (HasWidth a.width)) (sym stay.groups) is.wide) (subst (λ gs. IfSome group (λ g. g < length gs)) (sym stay.groups) stay.group)
             ∙ sym (hand-wide a.width a.core.groups a.group is.wide is.group);
         free_end = refl;
+        held = grows_held a.width a.core.groups core.groups a.core.closed core.closed (λ shut. (stay.closed ∙ shut, stay.groups));
       };
       is = record {
         child = is.child;
@@ -293,7 +297,7 @@ module _ (a : Inside) (is : IsGroup a) where
           ∙ ap (λ j. rows_by a.number false (drop j a.core.groups)) (sym r_a.unhanded) in
           record {
             takes = same_takes (group_flow a) (group_flow after_close) (group_flow (record after_close { core = core; group = group })) r refl rest refl s.takes;
-            kept = record { node = refl; depth = ap (λ d. d + 1) k.depth; width = s.kept.width; free_end = refl };
+            kept = record { node = refl; depth = ap (λ d. d + 1) k.depth; width = s.kept.width; free_end = refl; held = grows_held a.width a.core.groups core.groups a.core.closed core.closed (λ shut. absurd (no_more a.core.closed (is.unclosed reads) shut)) };
             is = s.is;
           }
 
@@ -333,6 +337,7 @@ module _ (a : Inside) (is : IsGroup a) where
           depth = ap (λ d. d + 1) k.depth;
           width = ap (λ o. length (group_hand a.width core.groups o)) r_a.none ∙ sym (ap (λ o. length (group_hand a.width a.core.groups o)) r_a.none);
           free_end = refl;
+          held = grows_held a.width a.core.groups core.groups a.core.closed core.closed (λ shut. absurd (no_more a.core.closed (is.unclosed reads) shut));
         }
 
       -- the child has none to come any more
@@ -405,3 +410,25 @@ module _ (a : Inside) (is : IsGroup a) where
               is = reads_on core (ap (λ c. c.keys) core_is) (ap (λ c. c.items) core_is) open_after (ap (λ c. c.handed) core_is ∙ r_a.unhanded) (r_a.read ++ child.hand ∷ [])
                   (ap (λ c. c.groups) core_is) few_after;
             }
+
+-- ---- the row at hand
+
+module _ (a : Inside) (is : IsGroup a) where
+  -- a group is at hand once no more rows go in
+  pub shut_by : (group : ℕ) → a.group ≡ Some group → a.core.closed ≡ true
+  shut_by group some = by a.reading refl
+    where
+      by : (b : Bool) → a.reading ≡ b → a.core.closed ≡ true
+      by false e = is.closed e
+      by true e = let no : None ≡ Some group = sym (is.reading e).none ∙ some in absurd cc
+
+  pub group_kept : (group : ℕ) → a.group ≡ Some group → KeepsRow (group_flow a).held (group_flow a).hand (part.Group group)
+  group_kept group some =
+      let within : group < length a.core.groups = subst (λ o. IfSome o (λ g. g < length a.core.groups)) some is.group in
+      subst (λ o. KeepsRow (group_flow a).held (group_hand a.width a.core.groups o) (part.Group group)) (sym some)
+      (group_keeps a.width a.core.groups a.core.closed group (shut_by group some) within (All-get_or (HasWidth a.width) a.core.groups group [] within is.wide))
+
+  pub no_group_kept : a.group ≡ None → KeepsRow (group_flow a).held (group_flow a).hand part.Nulls
+  no_group_kept absent =
+      subst (λ o. KeepsRow (group_flow a).held (group_hand a.width a.core.groups o) part.Nulls) (sym absent)
+      (no_group_keeps a.width a.core.groups a.core.closed (replicate a.width Null) (length-replicate a.width Null) (λ k l. null_cells a.width k))

@@ -1,3 +1,4 @@
+pub mod Kept
 pub mod Scans
 pub mod Streams
 pub mod Builds
@@ -11,6 +12,7 @@ pub mod Noting
 pub mod GaugeLists
 pub mod Groups
 pub mod GroupSteps
+pub mod SortSteps
 pub mod Comings
 pub mod Begins
 pub mod Joins
@@ -20,3 +22,4 @@ pub mod Steps
 pub mod NodeLists
 pub mod NoteLists
 pub mod Gauging
+pub mod Examples

@@ -496,7 +496,8 @@ module _ (db : Db) (K : Counts) where
   coming_noted (Over (Project columns) child) n run some done left e is agree =
       streamed_noted db K (Project columns) child n some (settled_by_row (Project columns) []) (λ rows row. refl) (λ row. rows_over (Project columns) (row ∷ [])) (coming db child (n + 1))
       (coming_noted child (n + 1) (run_below (Project columns) child run) (omega arith)) done left e is agree
-  coming_noted (Over (Sort keys) child) n run some done left e is agree = absurd cc
+  coming_noted (Over (Sort keys) child) n run some done left e is agree =
+      read_in_noted (Sort keys) child n (run_below (Sort keys) child run) some (coming_noted child (n + 1) (run_below (Sort keys) child run) (omega arith)) done left e is agree
   coming_noted (Over (Group keys items) child) n run some done left e is agree =
       read_in_noted (Group keys items) child n (run_below (Group keys items) child run) some (coming_noted child (n + 1) (run_below (Group keys items) child run) (omega arith)) done left e is agree
   coming_noted (Join (Hash pad) on lt rt) n run some done left e is agree =

@@ -21,6 +21,7 @@ filter_flow a =
       rest = filtered a.number a.cond.now (if a.ready then a.child.hand ∷ [] else []) a.child.rest;
       free_end = a.child.free_end;
       hand = a.child.hand;
+      held = a.child.held;
     }
 
 pub record IsFilter (a : Inside) : Type 0 where

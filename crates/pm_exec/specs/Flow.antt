@@ -3,14 +3,17 @@ use Rattle.std.specs.Prelude.{◌≡◌, ℕ, ◌≤◌, Bool, true, List, [], �
 use Rattle.pm_values.specs.Row.{Row}
 use Rattle.pm_exec.specs.declared.taken.Taken.{Taken}
 use Rattle.pm_exec.specs.Coming.{Coming, taken_by}
+use Rattle.pm_exec.specs.Held.{Held, KeepsHeld}
 
--- its number; how many iterators lie in one another; the events to come; whether the step at the end takes no memory; the row at hand
+-- its number; how many iterators lie in one another; the events to come; whether the step at the end takes no memory; the row at hand, and how its
+-- rows are kept
 pub record Flow : Type 0 where
   pub node : ℕ
   pub depth : ℕ
   pub rest : List Coming
   pub free_end : Bool
   pub hand : Row
+  pub held : Held
 
 -- whether the next step takes no memory
 abbrev pub is_free_by : List Coming → Bool → Bool
@@ -55,3 +58,4 @@ pub record Keeps (old new : Flow) : Type 0 where
   pub depth : new.depth ≡ old.depth
   pub width : length new.hand ≡ length old.hand
   pub free_end : new.free_end ≡ old.free_end
+  pub held : KeepsHeld old.held new.held

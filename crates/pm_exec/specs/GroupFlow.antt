@@ -6,6 +6,7 @@ use Rattle.pm_blocks.specs.GroupState.{GroupState, IsOf}
 use Rattle.pm_blocks.specs.Limits.{AreFew, IsWithin}
 use Rattle.pm_exec.specs.declared.taken.Taken.{Taken}
 use Rattle.pm_exec.specs.Coming.{Coming, taken_by, rows_by, rows_in}
+use Rattle.pm_exec.specs.Held.{held_in_group}
 use Rattle.pm_exec.specs.Flow.{Flow}
 use Rattle.pm_exec.specs.Growing.{grouping}
 use Rattle.pm_exec.specs.declared.group.Group.TheInside.{Inside}
@@ -28,6 +29,7 @@ group_flow a =
       rest = group_rest a.number a.core a.child.rest;
       free_end = false;
       hand = group_hand a.width a.core.groups a.group;
+      held = held_in_group a.width a.core.groups a.core.closed;
     }
 
 -- the groups are those of rows that were read, and with the rows to come there are few enough

@@ -1,5 +1,6 @@
 pub mod Coming
 pub mod Hashed
+pub mod Held
 pub mod Flow
 pub mod ScanFlow
 pub mod FilterFlow
@@ -7,6 +8,9 @@ pub mod ProjectFlow
 pub mod SideFlow
 pub mod BuildFlow
 pub mod HashFlow
+pub mod Merged
+pub mod MergeSideFlow
+pub mod MergeFlow
 pub mod Sought
 pub mod LookupFlow
 pub mod IndexFlow
@@ -19,6 +23,8 @@ pub mod InnerSide
 pub mod Gauged
 pub mod IterFlow
 pub mod Plan
+pub mod SortFlow
 pub mod Ran
 pub mod Memory
 pub mod Running
+pub mod Worked

@@ -8,7 +8,8 @@ use Rattle.pm_plan.specs.declared.plan.Node.{Node}
 use Rattle.pm_plan.specs.declared.plan.Pair.{Pair}
 use Rattle.pm_plan.specs.Rows.{Db, table_rows, decls_of}
 use Rattle.pm_plan.specs.declared.plan.Aggregate.{Aggregate}
-use Rattle.pm_plan.specs.Joins.{left_columns, right_columns}
+use Rattle.pm_plan.specs.Joins.{left_columns, right_columns, keys_of, join}
+use Rattle.pm_joins.proofs.Ascending.{Ascend}
 use Rattle.pm_plan.specs.Tree.{Unary, Filter, Project, Sort, Group, Method, Hash, Merge, Tree, Scan, Over, Join, Index, Each, streams, right_number}
 use Rattle.pm_plan.specs.Preorder.{IsTreeAt}
 use Rattle.pm_plan.specs.Kinds.{width}
@@ -18,7 +19,9 @@ use Rattle.pm_work.specs.Events.{events}
 use Rattle.pm_work.specs.Changes.{settled_by_row}
 use Rattle.pm_exec.specs.Coming.{Coming, taken_read, rows_by, rows_in, streamed}
 use Rattle.pm_blocks.specs.Limits.{AreFew, IsWithin}
+use Rattle.pm_blocks.specs.SortedNumbers.{sort_columns}
 use Rattle.pm_exec.specs.Hashed.{hashed}
+use Rattle.pm_exec.specs.Merged.{merging}
 use Rattle.pm_exec.specs.Sought.{IsWellFormedIf, looked_up}
 use Rattle.pm_exec.specs.Flow.{Flow}
 
@@ -39,18 +42,18 @@ coming_over op n below =
 -- a join whose sides have these events, the right side having number r and rows of so many columns
 abbrev pub coming_joined : Method → List Pair → ℕ → ℕ → ℕ → List Coming → List Coming → List Coming
 coming_joined (Hash pad) pairs n r wide lefts rights = hashed n pad pairs r wide rights lefts
-coming_joined Merge pairs n r wide lefts rights = []
+coming_joined Merge pairs n r wide lefts rights = merging n r pairs [] lefts rights
 
 -- the operators that are run so far
 abbrev pub is_run_over : Unary → Bool
 is_run_over (Filter cond) = true
 is_run_over (Project columns) = true
-is_run_over (Sort keys) = false
+is_run_over (Sort keys) = true
 is_run_over (Group keys items) = true
 
 abbrev pub is_run_method : Method → Bool
 is_run_method (Hash pad) = true
-is_run_method Merge = false
+is_run_method Merge = true
 
 abbrev pub is_run : Tree → Bool
 is_run (Scan table label) = true
@@ -109,6 +112,7 @@ pub record IsFresh (db : Db) (tree : Tree) (n : ℕ) (f : Flow) : Type 0 where
   pub rest : f.rest ≡ coming db tree n
   pub free_end : f.free_end ≡ ends_free tree
   pub width : length f.hand ≡ width (decls_of db) tree
+  pub laid : length f.held.places ≡ length f.hand
 
 -- what a group asks of its child's rows, which have so many columns
 pub record CanGroup (keys : List ℕ) (items : List Aggregate) (wide : ℕ) (rows : List Row) : Type 0 where
@@ -121,7 +125,7 @@ pub record CanGroup (keys : List ℕ) (items : List Aggregate) (wide : ℕ) (row
 abbrev pub CanRead : Unary → ℕ → List Row → Type 0
 CanRead (Filter cond) wide rows = IsWellFormed wide cond
 CanRead (Project columns) wide rows = AllBelow columns wide
-CanRead (Sort keys) wide rows = Unit {0}
+CanRead (Sort keys) wide rows = AllBelow (sort_columns keys) wide
 CanRead (Group keys items) wide rows = CanGroup keys items wide rows
 
 -- how many columns its rows have
@@ -137,6 +141,7 @@ pub record IsOver (op : Unary) (n : ℕ) (child f : Flow) : Type 0 where
   pub rest : f.rest ≡ coming_over op n child.rest
   pub free_end : f.free_end ≡ (streams op && child.free_end)
   pub width : length f.hand ≡ wide_over op (length child.hand)
+  pub laid : length f.held.places ≡ length f.hand
 
 -- a valid scan, or a filter over one, stands at node n of the list
 pub record IsSideAt (nodes : List Node) (db : Db) (n : ℕ) : Type 0 where
@@ -157,6 +162,7 @@ pub record IsFreshSide (db : Db) (tree : Tree) (n : ℕ) (f : Flow) : Type 0 whe
 -- what a join asks of its sides, which have handed out nothing
 pub record CanJoin (n : ℕ) (pairs : List Pair) (l r : Flow) : Type 0 where
   pub left : l.node ≡ n + 1
+  pub laid : length l.held.places ≡ length l.hand
   pub numbered : n + 1 < 2 ^ 32
   pub right : n + 1 < r.node
   pub narrow : length l.hand + length r.hand < 2 ^ 32
@@ -164,6 +170,16 @@ pub record CanJoin (n : ℕ) (pairs : List Pair) (l r : Flow) : Type 0 where
   pub rights : AllBelow (right_columns pairs) (length r.hand)
   pub few : length pairs < 2 ^ 32
   pub room : length r.rest < 2 ^ 32 - 1
+
+pub record MergesWell (pairs : List Pair) (lefts rights : List Row) : Type 0 where
+  pub lefts_ascend : Ascend (keys_of (left_columns pairs) lefts)
+  pub rights_ascend : Ascend (keys_of (right_columns pairs) rights)
+  pub few : length (join pairs lefts rights) < 2 ^ 128
+
+-- what a merge join asks besides: the keys of both sides ascend, and its rows can be counted in 128 bits
+abbrev pub CanMerge : Method → ℕ → List Pair → Flow → Flow → Type 0
+CanMerge (Hash pad) n pairs l r = Unit {0}
+CanMerge Merge n pairs l r = MergesWell pairs (rows_in (n + 1) l.rest) (rows_in r.node r.rest)
 
 abbrev pub joined : Method → ℕ → List Pair → Flow → Flow → List Coming
 joined method n pairs left right = coming_joined method pairs n right.node (length right.hand) left.rest right.rest
@@ -174,6 +190,7 @@ pub record IsJoined (method : Method) (n : ℕ) (pairs : List Pair) (left right 
   pub rest : f.rest ≡ joined method n pairs left right
   pub free_end : f.free_end ≡ left.free_end
   pub width : length f.hand ≡ length left.hand + length right.hand
+  pub laid : length f.held.places ≡ length f.hand
 
 -- what an index join asks of its left side, which has handed out nothing, and of the table of its Seek
 pub record CanLookUp (n seek : ℕ) (cond : Option Cond) (pairs : List Pair) (table : Relation) (l : Flow) : Type 0 where
@@ -184,6 +201,7 @@ pub record CanLookUp (n seek : ℕ) (cond : Option Cond) (pairs : List Pair) (ta
   pub lefts : AllBelow (left_columns pairs) (length l.hand)
   pub well_formed : IsWellFormedIf (length l.hand + length table.decl.columns) cond
   pub few : length (looked_up cond n seek pairs table.rows [] l.rest) < 2 ^ 128
+  pub laid : length l.held.places ≡ length l.hand
 
 -- an iterator of node n, of an index join of this left side
 pub record IsLookedUp (n seek : ℕ) (cond : Option Cond) (pairs : List Pair) (table : Relation) (l f : Flow) : Type 0 where
@@ -191,3 +209,4 @@ pub record IsLookedUp (n seek : ℕ) (cond : Option Cond) (pairs : List Pair) (t
   pub rest : f.rest ≡ looked_up cond n seek pairs table.rows [] l.rest
   pub free_end : f.free_end ≡ l.free_end
   pub width : length f.hand ≡ length l.hand + length table.decl.columns
+  pub laid : length f.held.places ≡ length f.hand

@@ -2,6 +2,7 @@
 use Rattle.std.specs.Prelude.{◌≡◌, ℕ, ◌+◌, ◌<◌, ◌^◌, if◌then◌else◌, List, [], ◌∷◌, length}
 use Rattle.pm_values.specs.Row.{Row, AllBelow, pick}
 use Rattle.pm_exec.specs.Coming.{Coming, streamed}
+use Rattle.pm_exec.specs.Held.{held_picked}
 use Rattle.pm_exec.specs.Flow.{Flow}
 use Rattle.pm_exec.specs.declared.project.Project.TheInside.{Inside}
 
@@ -17,6 +18,7 @@ project_flow a =
       rest = projected a.number a.columns.now (if a.ready then pick a.columns.now a.child.hand ∷ [] else []) a.child.rest;
       free_end = a.child.free_end;
       hand = pick a.columns.now a.child.hand;
+      held = held_picked a.columns.now a.child.held;
     }
 
 pub record IsProject (a : Inside) : Type 0 where

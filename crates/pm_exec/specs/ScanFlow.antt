@@ -4,6 +4,7 @@ use Rattle.pm_values.specs.declared.value.Value.TheVariants.{Null}
 use Rattle.pm_values.specs.Table.{Relation}
 use Rattle.pm_values.specs.Row.{Row}
 use Rattle.pm_exec.specs.Coming.{rows_by}
+use Rattle.pm_exec.specs.Held.{held_in_row}
 use Rattle.pm_exec.specs.Flow.{Flow}
 use Rattle.pm_exec.specs.declared.scan.Scan.TheInside.{Inside}
 
@@ -24,6 +25,7 @@ scan_flow a =
       rest = rows_by a.number true (drop a.next a.table.now.rows);
       free_end = true;
       hand = last_of a.next a.table.now;
+      held = held_in_row (length a.table.now.decl.columns);
     }
 
 pub record IsScan (a : Inside) : Type 0 where

@@ -18,10 +18,16 @@ mod inner;
 mod iter;
 mod laws;
 mod lookup;
+mod merge;
+mod merge_side;
+mod part;
 mod project;
 mod scan;
 mod side;
+mod sort;
 mod taken;
+#[cfg(test)]
+mod tests;
 mod tick;
 
 pub use columns::{JoinColumns, KeyColumns, key_columns};
