@@ -5,6 +5,9 @@ pub mod Builds
 pub mod Sides
 pub mod Hashes
 pub mod HashSteps
+pub mod Mergings
+pub mod MergeSides
+pub mod MergeSteps
 pub mod Lookups
 pub mod IndexSteps
 pub mod Notes
