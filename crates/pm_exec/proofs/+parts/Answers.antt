@@ -33,7 +33,6 @@ index::IndexJoin::push_parts-returns-clause-ok t c =
     subst (λ r. PutsRow (held_beside wide a.left.held) (a.left.hand ++ r) c.args.parts.now.items c.push_parts.new.parts.items) row
     (puts_beside wide a.left.held a.left.hand c.of.result c.args.parts.now.items c.put.new.parts.items c.push_parts.new.parts.items is c.in_ok-put.ensures.ok more)) c.push_parts.ensures.ok)
 
-
 pub merge::Merge::push_parts-returns-clause-ok : goal.merge::Merge::push_parts-returns-clause-ok
 merge::Merge::push_parts-returns-clause-ok t c =
     let a = c.self.inside in
