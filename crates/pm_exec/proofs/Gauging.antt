@@ -36,7 +36,8 @@ use Rattle.pm_exec.specs.Gauged.{IsAmong, IsCounted, first_gauge}
 use Rattle.pm_exec.specs.Ran.{Ran}
 use Rattle.pm_exec.specs.Running.{IsRootOf}
 use Rattle.pm_exec.proofs.Comings.{event-coming}
-use Rattle.pm_exec.proofs.Noting.{Noted, coming_noted}
+use Rattle.pm_exec.proofs.Noting.{Noted}
+use Rattle.pm_exec.proofs.TreeNoting.{coming_noted}
 use Rattle.pm_exec.proofs.GaugeLists.{gauges_next}
 use Rattle.pm_exec.proofs.NodeLists.{All-list_at, list_at-same, map-list_at}
 use Rattle.pm_exec.proofs.Works.{events_few}
@@ -70,7 +71,7 @@ gauges_noted db tree done left e sound run is =
     let all : map event_of done ++ event_of e ∷ map event_of left ≡ events db tree 1 = sym (map-append event_of done (e ∷ left)) ∙ ap (map event_of) is ∙ event-coming db tree 1 run in
     subst (λ es. gauges_of db tree 1 (counts es) ≡ gauges_with 1 e.taken (gauges_of db tree 1 (counts (map event_of done)))) (sym (map-append event_of done (e ∷ [])))
     (gauges_next db (map event_of done) (map event_of left) e.taken e.row tree sound all
-    (coming_noted db (counts (map event_of done)) tree 1 run (omega arith) done left e is (λ m l h. refl)).all)
+    (coming_noted db (counts (map event_of done)) tree 1 run (merges_ascend db sound.tables tree sound.operators) (omega arith) done left e is (λ m l h. refl)).all)
 
 module _ {X : Type 0} where
   take-more : (k : ℕ) (xs ys : List X) (y : X) → drop k xs ≡ y ∷ ys → take (k + 1) xs ≡ take k xs ++ y ∷ []
@@ -113,11 +114,11 @@ module _ (ran : Ran) (root : Flow) (is : IsRootOf ran root) (run : is_run (tree_
       ∙ gauges_noted ran.db tree (take ran.taken es) new.rest e sound run (take-cut ran.taken es new.rest e at)
       ∙ ap (λ xs. gauges_with 1 taken (G xs)) (so_far ran.taken)
 
-  pub event_among : IsAmong (length (gauges_at ran.db tree ran.taken)) taken
-  event_among =
+  pub event_among : IsSound ran.db tree → IsAmong (length (gauges_at ran.db tree ran.taken)) taken
+  event_among sound =
       let K : Counts = counts (map event_of (take ran.taken es)) in
       let noted : Noted ran.db K tree 1 e =
-      coming_noted ran.db K tree 1 run (omega arith) (take ran.taken es) new.rest e (take-cut ran.taken es new.rest e at) (λ m l h. refl) in
+      coming_noted ran.db K tree 1 run (merges_ascend ran.db sound.tables tree sound.operators) (omega arith) (take ran.taken es) new.rest e (take-cut ran.taken es new.rest e at) (λ m l h. refl) in
       let many : length (gauges_at ran.db tree ran.taken) ≡ size tree =
       length-list_at (λ u m. gauge_of ran.db u m (counts (take ran.taken (events ran.db tree 1)))) (λ left seek m. seek_gauge ran.db left seek m (counts (take ran.taken (events ran.db tree 1)))) tree 1 in
       record {

@@ -12,6 +12,8 @@ pub mod Lookups
 pub mod IndexSteps
 pub mod Notes
 pub mod Noting
+pub mod MergeNoting
+pub mod TreeNoting
 pub mod GaugeLists
 pub mod Groups
 pub mod GroupSteps
