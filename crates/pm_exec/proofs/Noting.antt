@@ -13,23 +13,19 @@ use Rattle.pm_values.proofs.KeysAppended.{worst-append_key, worst-append_null}
 use Rattle.pm_plan.specs.Rows.{Db, table_rows, decls_of}
 use Rattle.pm_plan.specs.Joins.{right_columns, keys_of, rows_for, worst, multiplicity, matches}
 use Rattle.pm_plan.specs.Kinds.{width}
-use Rattle.pm_plan.specs.Tree.{Unary, Filter, Project, Sort, Group, Hash, Merge, On, Tree, Scan, Over, Join, Index, Seek, size, right_number}
-use Rattle.pm_plan.specs.Outputs.{output, rows_over, sought, keeps_if}
-use Rattle.pm_plan.proofs.Walks.{EachAt-root}
-use Rattle.pm_work.proofs.Counting.{events_each}
-use Rattle.pm_work.specs.Events.{events, events_of, rows_at}
+use Rattle.pm_plan.specs.Tree.{Unary, Hash, On, Tree, Over, Join, Index, Seek, size, right_number}
+use Rattle.pm_plan.specs.Outputs.{output, keeps_if}
+use Rattle.pm_work.specs.Events.{events_of, rows_at}
 use Rattle.pm_work.specs.Moments.{Counts, worst_at}
 use Rattle.pm_work.specs.Changes.{settled_by_row, settled_by_sought, last_row, worst_with}
 use Rattle.pm_work.proofs.EventLists.{Within, Within-first, Only-events_of, rows_at-other, rows_at-outside}
 use Rattle.pm_work.proofs.Cuts.{front_of}
-use Rattle.pm_work.proofs.EventLaws.{size_pos, Within-events, rows_at-events}
+use Rattle.pm_work.proofs.EventLaws.{size_pos}
 use Rattle.pm_exec.specs.declared.taken.Taken.{Taken}
 use Rattle.pm_exec.specs.Coming.{Coming, event_of, taken_by, taken_read, rows_by, read, rows_in, after}
-use Rattle.pm_exec.specs.Hashed.{entered}
 use Rattle.pm_exec.specs.Sought.{kept_row, seek_rows, looked_up}
-use Rattle.pm_exec.specs.Plan.{is_run, coming, taken_in}
 use Rattle.pm_exec.proofs.Streams.{neq-eqb}
-use Rattle.pm_exec.proofs.Comings.{event-rows_by, event-coming, rows_in-at, run_below, run_sides}
+use Rattle.pm_exec.proofs.Comings.{event-rows_by, rows_in-at}
 use Rattle.pm_exec.proofs.Notes.{AllNoted, apart-noted, FromBelow, cut-append, cut-after, rows_of, rows_of-append, history, FromHistory, cut-history}
 
 -- an event of a tree at these counts

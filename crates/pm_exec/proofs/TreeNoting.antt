@@ -1,36 +1,23 @@
 -- of any tree
-use Rattle.std.proofs.Common.{◌≡◌, ℕ, ◌+◌, ◌<◌, ◌≤◌, Bool, true, false, eqb, List, [], ◌∷◌, ◌++◌, map, length, take, max, refl, ap, sym, subst, ◌∙◌, ◌⊎◌, inl, inr, arith, length-append, get_or, ◌-◌}
-use Rattle.std.specs.Prelude.{if◌then◌else◌, Option}
-use Rattle.std.proofs.Math.Seq.{get_or-append_seam}
-use Rattle.std.specs.List.{filter}
-use Rattle.std.proofs.lemmas.Bool.{eq-eqb, eqb-true, cases_Bool}
-use Rattle.std.proofs.lemmas.List.{map-append, take_all}
-use Rattle.pm_values.specs.declared.condition.Cond.{Cond}
-use Rattle.pm_values.specs.Row.{Row, pick}
-use Rattle.pm_values.specs.Equality.{same_key}
-use Rattle.pm_values.specs.Keys.{worst as worst_key}
-use Rattle.pm_values.proofs.KeysAppended.{worst-append_key, worst-append_null}
+use Rattle.std.proofs.Common.{◌≡◌, ℕ, ◌+◌, ◌≤◌, true, false, List, [], ◌∷◌, ◌++◌, map, length, refl, ap, sym, subst, ◌∙◌, inl, inr, arith}
+use Rattle.pm_values.specs.Row.{Row}
 use Rattle.pm_plan.specs.Rows.{Db, table_rows, decls_of}
-use Rattle.pm_plan.specs.Joins.{right_columns, keys_of, rows_for, worst, multiplicity, matches}
+use Rattle.pm_plan.specs.Joins.{right_columns, rows_for, worst}
 use Rattle.pm_plan.specs.Kinds.{width}
-use Rattle.pm_plan.specs.Tree.{Unary, Filter, Project, Sort, Group, Hash, Merge, On, Tree, Scan, Over, Join, Index, Seek, size, right_number}
-use Rattle.pm_plan.specs.Outputs.{output, rows_over, sought, keeps_if}
+use Rattle.pm_plan.specs.Tree.{Unary, Filter, Project, Sort, Group, Hash, Merge, Tree, Scan, Over, Join, Index, size, right_number}
+use Rattle.pm_plan.specs.Outputs.{output, rows_over, sought}
 use Rattle.pm_plan.proofs.Walks.{EachAt-root}
 use Rattle.pm_work.proofs.Counting.{events_each}
-use Rattle.pm_work.specs.Events.{events, events_of, rows_at}
-use Rattle.pm_work.specs.Moments.{Counts, worst_at}
-use Rattle.pm_work.specs.Changes.{settled_by_row, settled_by_sought, last_row, worst_with}
-use Rattle.pm_work.proofs.EventLists.{Within, Within-first, Only-events_of, rows_at-other, rows_at-outside}
-use Rattle.pm_work.proofs.Cuts.{front_of}
-use Rattle.pm_work.proofs.EventLaws.{size_pos, Within-events, rows_at-events}
-use Rattle.pm_exec.specs.declared.taken.Taken.{Taken}
-use Rattle.pm_exec.specs.Coming.{Coming, event_of, taken_by, taken_read, rows_by, read, rows_in, after}
+use Rattle.pm_work.specs.Events.{events, rows_at}
+use Rattle.pm_work.specs.Moments.{Counts}
+use Rattle.pm_work.specs.Changes.{settled_by_row}
+use Rattle.pm_work.proofs.EventLists.{Within}
+use Rattle.pm_work.proofs.EventLaws.{Within-events, rows_at-events}
+use Rattle.pm_exec.specs.Coming.{Coming, event_of, taken_read, rows_by, read, rows_in, after}
 use Rattle.pm_exec.specs.Hashed.{entered}
-use Rattle.pm_exec.specs.Sought.{kept_row, seek_rows, looked_up}
 use Rattle.pm_exec.specs.Plan.{is_run, coming, taken_in}
-use Rattle.pm_exec.proofs.Streams.{neq-eqb}
-use Rattle.pm_exec.proofs.Comings.{event-rows_by, event-coming, rows_in-at, run_below, run_sides}
-use Rattle.pm_exec.proofs.Notes.{AllNoted, apart-noted, FromBelow, cut-append, cut-after, rows_of, rows_of-append, history, FromHistory, cut-history}
+use Rattle.pm_exec.proofs.Comings.{event-coming, run_below, run_sides}
+use Rattle.pm_exec.proofs.Notes.{cut-append, rows_of, rows_of-append, history}
 use Rattle.pm_work.specs.Facts.{MergesAscend}
 use Rattle.pm_exec.proofs.Noting.{Noted, Agree, row_taken, own_noted, streamed_noted, taken_in_noted, right_noted, left_noted, sought_noted}
 use Rattle.pm_exec.proofs.MergeSides.{ascend_rows}
