@@ -18,6 +18,8 @@ mod inner;
 mod iter;
 mod laws;
 mod lookup;
+mod merge;
+mod merge_side;
 mod part;
 mod project;
 mod scan;
