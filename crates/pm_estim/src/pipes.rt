@@ -164,7 +164,7 @@ impl Pipes {
         self.pipes[node as usize - 1].driver
     }
 
-    /// They as a slice, in the plan's order.
+    /// Where each operator stands, in the plan's order.
     pub fn as_slice(&self) -> &[Pipe]
         ensures { result.now ≡ self.now }
     {

@@ -62,7 +62,8 @@ fn first_gauge(db: &Db, node: &Node, index: &Option<Index<'_>>) -> Gauge
     }
 }
 
-/// The gauges of a plan's nodes before the first event, in the plan's order, from the plan's indexes. Only want of memory fails it.
+/// The gauges of a plan's nodes before the first event, in the plan's order, from the plan's indexes. Only want
+/// of memory fails it.
 pub fn first_gauges(
     alloc: Global,
     plan: &Plan,
