@@ -1,5 +1,5 @@
 -- what is true of every run
-use Rattle.std.specs.Prelude.{◌≡◌, ◌≤◌, ◌<◌, ◌^◌, true, false, drop, length, All}
+use Rattle.std.specs.Prelude.{◌≡◌, ◌≤◌, ◌<◌, ◌^◌, false, drop, length, All}
 use Rattle.pm_values.specs.Table.{IsRelation}
 use Rattle.pm_plan.specs.Preorder.{tree_of}
 use Rattle.pm_work.specs.Fits.{Fits}
