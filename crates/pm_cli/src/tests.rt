@@ -2,180 +2,178 @@ use crate::{Role, Status, monitor_main};
 use pm_io::{MemFiles, MemSink};
 use pm_values::{OpenGate, Txt};
 use std::alloc::{AllocError, Global};
+use std::marker::Sync;
 use std::test::Fail;
 use std::thread::Threads;
 
-const SCHEMA: &str = "TABLE t FROM 't.csv' (a INT NOT NULL);";
+const SCHEMA: &str =
+    "TABLE item FROM 'item.csv' (code TEXT NOT NULL, price NUM(2), KEY (code));\n\
+TABLE sale FROM 'sale.csv' (id INT NOT NULL, code TEXT NOT NULL, n INT NOT NULL, KEY (id));\n";
 
-const QUERY: &str = "SELECT * FROM t";
+const QUERY: &str =
+    "SELECT s.id, i.price FROM sale s JOIN item i ON s.code = i.code WHERE s.n > 2";
 
-/// What a run over the numbers 7, 8 and 9 writes.
-const THREE: &str = "N 1 project 2\nN 2 scan t t\nH a\n\
-P work=1 lo=6 hi=6 dne=1/3 safe=1/6 pmax=1/6 pct=16.66..16.67\nR 7\n\
-P work=2 lo=6 hi=6 dne=1/3 safe=2/6 pmax=2/6 pct=33.33..33.34\n\
-P work=3 lo=6 hi=6 dne=2/3 safe=3/6 pmax=3/6 pct=50.00..50.00\nR 8\n\
-P work=4 lo=6 hi=6 dne=2/3 safe=4/6 pmax=4/6 pct=66.66..66.67\n\
-P work=5 lo=6 hi=6 dne=3/3 safe=5/6 pmax=5/6 pct=83.33..83.34\nR 9\n\
-P work=6 lo=6 hi=6 dne=3/3 safe=6/6 pmax=6/6 pct=100.00..100.00\n\
-E rows=3 work=6\n";
+const ITEMS: &str = "code,price\ntea,2.50\nrice,1.20\noil,\n";
 
-/// The command `run s q` over these files, with this file call and this write failing, and reads of one byte.
-fn run<R: Threads>(
+const SALES: &str = "id,code,n\n1,tea,2\n2,rice,9\n3,salt,4\n4,tea,3\n";
+
+/// What `run` writes of the query.
+const WHOLE: &str = "N 1 project 2\nN 2 hash 3 5 unique=right\nN 3 filter 4\nN 4 scan sale s\nN 5 scan item i\nH id,price\n\
+P work=1 lo=7 hi=19 dne=1/7 safe=1/11 pmax=1/7 pct=5.26..14.29\n\
+P work=2 lo=7 hi=19 dne=2/7 safe=2/11 pmax=2/7 pct=10.52..28.58\n\
+P work=3 lo=7 hi=19 dne=3/7 safe=3/11 pmax=3/7 pct=15.78..42.86\n\
+P work=4 lo=7 hi=16 dne=4/7 safe=4/10 pmax=4/7 pct=25.00..57.15\n\
+P work=5 lo=8 hi=16 dne=5/7 safe=5/11 pmax=5/8 pct=31.25..62.50\n\
+P work=6 lo=10 hi=16 dne=5/7 safe=6/12 pmax=6/10 pct=37.50..60.00\n\
+P work=7 lo=10 hi=16 dne=5/7 safe=7/12 pmax=7/10 pct=43.75..70.00\n\
+R 2,1.20\n\
+P work=8 lo=10 hi=16 dne=5/7 safe=8/12 pmax=8/10 pct=50.00..80.00\n\
+P work=9 lo=11 hi=16 dne=6/7 safe=9/13 pmax=9/11 pct=56.25..81.82\n\
+P work=10 lo=11 hi=14 dne=6/7 safe=10/12 pmax=10/11 pct=71.42..90.91\n\
+P work=11 lo=12 hi=14 dne=7/7 safe=11/12 pmax=11/12 pct=78.57..91.67\n\
+P work=12 lo=14 hi=14 dne=7/7 safe=12/14 pmax=12/14 pct=85.71..85.72\n\
+P work=13 lo=14 hi=14 dne=7/7 safe=13/14 pmax=13/14 pct=92.85..92.86\n\
+R 4,2.50\n\
+P work=14 lo=14 hi=14 dne=7/7 safe=14/14 pmax=14/14 pct=100.00..100.00\n\
+E rows=2 work=14\n";
+
+const EXPLAINED: &str = "N 1 project 2\nN 2 hash 3 5 unique=right\nN 3 filter 4\nN 4 scan sale s\nN 5 scan item i\n\
+B 1 lo=0 hi=4 pipe=1 driver=no\nB 2 lo=0 hi=4 pipe=1 driver=no\nB 3 lo=0 hi=4 pipe=1 driver=no\n\
+B 4 lo=4 hi=4 pipe=1 driver=yes\nB 5 lo=3 hi=3 pipe=2 driver=yes\nF lo=7 hi=19\n";
+
+const ROWS: &str = "N 1 project 2\nN 2 hash 3 5 unique=right\nN 3 filter 4\nN 4 scan sale s\nN 5 scan item i\nH id,price\n\
+R 2,1.20\nR 4,2.50\nE rows=2 work=14\n";
+
+const LOOKED_UP: &str = "N 1 project 2\nN 2 index 3 5\nN 3 filter 4\nN 4 scan sale s\nN 5 seek item i unique=right\nH id,price\n\
+R 2,1.20\nR 4,2.50\nE rows=2 work=13\n";
+
+const GROUPED: &str = "SELECT i.code, COUNT(*), SUM(s.n) FROM item i LEFT JOIN sale s ON i.code = s.code GROUP BY i.code ORDER BY i.code DESC";
+
+const GROUPS: &str = "N 1 project 2\nN 2 sort 3\nN 3 group 4\nN 4 lefthash 5 6 unique=left\nN 5 scan item i\nN 6 scan sale s\n\
+H code,COUNT(*),SUM(s.n)\nR tea,2,5\nR rice,1,9\nR oil,1,\nE rows=3 work=20\n";
+
+const DEMO: &str = "N 1 project 2\nN 2 sort 3\nN 3 group 4\nN 4 hash 5 7 unique=right\nN 5 filter 6\nN 6 scan ord o\nN 7 scan cust c\n\
+H region,n,total\nP work=10 lo=10 hi=10 dne=10/10 safe=10/10 pmax=10/10 pct=100.00..100.00\nE rows=0 work=10\n";
+
+/// The shop's files, with this text of the query and this one of the items; an empty one is absent.
+fn shop(alloc: Global, query: &str, items: &str) -> Result<MemFiles, AllocError> {
+    let mut files = MemFiles::new(alloc);
+    for (name, text) in [
+        ("s", SCHEMA),
+        ("q", query),
+        ("item.csv", items),
+        ("sale.csv", SALES),
+    ] {
+        if !text.is_empty() {
+            files.put(&Txt::new(alloc, name)?, text.as_bytes())?;
+        }
+    }
+    Ok(files)
+}
+
+/// The command of these words, parted by blanks.
+fn command<R: Threads + Sync>(
     rt: &R,
     alloc: Global,
-    files: [&str; 3],
-    call: u64,
-    write: u64,
-) -> Result<(Status, MemSink), AllocError> {
-    let mut held = MemFiles::new(alloc);
-    held.put(&Txt::new(alloc, "s")?, files[0].as_bytes())?;
-    held.put(&Txt::new(alloc, "q")?, files[1].as_bytes())?;
-    held.put(&Txt::new(alloc, "t.csv")?, files[2].as_bytes())?;
-    held.fail_at(call)?;
-    held.piece(1);
-    let mut out = MemSink::new(alloc, 4096)?;
-    out.fail_at(write)?;
-    let words = [
-        Txt::new(alloc, "run")?,
-        Txt::new(alloc, "s")?,
-        Txt::new(alloc, "q")?,
-    ];
-    let status = monitor_main(rt, alloc, words.as_slice(), &mut held, &mut out, &OpenGate);
-    Ok((status, out))
+    words: &str,
+    files: &mut MemFiles,
+    out: &mut MemSink,
+) -> Result<Status, AllocError> {
+    let mut list = Vec::new(alloc);
+    for word in words.split_whitespace() {
+        list.push(Txt::new(alloc, word)?)?;
+    }
+    Ok(monitor_main(rt, alloc, list.as_slice(), files, out, &OpenGate))
 }
 
 #[test]
-fn texts_are_refused_at_their_places(rt: HostRuntime) -> Result<(), Fail> {
-    let table = "a\n7\n8\n9\n";
-    let key = "TABLE t FROM 't.csv' (a INT, KEY (a));";
-    let twice = "TABLE t FROM 't.csv' (a INT, a TEXT);";
-    for (files, code, text) in [
-        ([SCHEMA, QUERY, table], 0, THREE),
-        (["", QUERY, table], 2, "! 2 expected 0\n"),
-        ([key, QUERY, table], 2, "! 2 nullkey 34\n"),
-        ([twice, QUERY, table], 2, "! 2 doublecolumn 29\n"),
-        (["TABLE t ?", QUERY, table], 2, "! 2 badchar 8\n"),
-        ([SCHEMA, "", table], 3, "! 3 expected 0\n"),
-        ([SCHEMA, "SELECT id FROM", table], 3, "! 3 expected 14\n"),
-        (
-            [SCHEMA, "SELECT id FROM cust WHERE name = 'Bob", table],
-            3,
-            "! 3 opentext 33\n",
-        ),
-        (
-            [SCHEMA, "select id from cust limit 2", table],
-            3,
-            "! 3 expected 20\n",
-        ),
-        ([SCHEMA, "SELECT a FROM t", table], 11, "! 11 notbuilt\n"),
-        ([SCHEMA, "SELECT * FROM u", table], 11, "! 11 notbuilt\n"),
-        ([SCHEMA, "SELECT * FROM t x", table], 11, "! 11 notbuilt\n"),
-        ([SCHEMA, "SELECT * FROM t, t", table], 11, "! 11 notbuilt\n"),
+fn commands_write_their_text(rt: HostRuntime) -> Result<(), Fail> {
+    let alloc: Global = rt.alloc();
+    for (words, query, items, code, text) in [
+        ("run s q", QUERY, ITEMS, 0, WHOLE),
+        ("explain s q", QUERY, ITEMS, 0, EXPLAINED),
+        ("run s q --progress off --workers 8", QUERY, ITEMS, 0, ROWS),
+        ("run s q --join=index --progress=off", QUERY, ITEMS, 0, LOOKED_UP),
+        ("run s q --progress off", GROUPED, ITEMS, 0, GROUPS),
+        ("demo 2 --workers=2", "", "", 0, DEMO),
+        ("", QUERY, ITEMS, 1, "! 1 usage\n"),
+        ("walk s q", QUERY, ITEMS, 1, "! 1 usage\n"),
+        ("run s", QUERY, ITEMS, 1, "! 1 usage\n"),
+        ("run s q --every 0", QUERY, ITEMS, 1, "! 1 usage\n"),
+        ("run s q --every 1 --every 2", QUERY, ITEMS, 1, "! 1 usage\n"),
+        ("explain s q --workers 65", QUERY, ITEMS, 1, "! 1 usage\n"),
+        ("demo 0", QUERY, ITEMS, 1, "! 1 usage\n"),
+        ("run q q", QUERY, ITEMS, 2, "! 2 expected 0\n"),
+        ("run s q", "SELECT id FROM", ITEMS, 3, "! 3 expected 14\n"),
+        ("run s q", "SELECT id FROM shop", ITEMS, 4, "! 4 notable 15\n"),
+        ("run s q", QUERY, "code,price\ntea,1\noil,2\ntea,3\n", 5, "! 5 doublekey item 1 3\n"),
+        ("run s q --workers 8", QUERY, "", 6, "! 6 nofile item.csv\n"),
+        ("explain nowhere q", QUERY, ITEMS, 6, "! 6 nofile nowhere\n"),
     ] {
-        let (answer, out) = run(&rt, rt.alloc(), files, 0, 0)?;
-        assert_eq!(rt; answer.code(), code);
-        assert_eq!(rt; out.bytes(), text.as_bytes());
+        let mut files = shop(alloc, query, items)?;
+        let mut out = MemSink::new(alloc, 4096)?;
+        let status = command(&rt, alloc, words, &mut files, &mut out)?;
+        assert_eq!(rt; status.code(), code, "{words}");
+        assert_eq!(rt; out.bytes(), text.as_bytes(), "{words}");
     }
     Ok(())
-}
-
-const NUMBERS: &str = "TABLE n FROM 't.csv' (p NUM(2), q INT NOT NULL);";
-
-const KEYED: &str =
-    "TABLE c FROM 'c.csv' (x TEXT); TABLE n FROM 't.csv' (p INT NOT NULL, q INT, KEY (p));";
-
-const REFERRING: &str =
-    "TABLE n FROM 't.csv' (p INT NOT NULL, q INT NOT NULL, KEY (p), REFERENCES (q) TO n (p));";
-
-const ORDERED: &str = "TABLE n FROM 't.csv' (p INT NOT NULL, q INT, ORDER (p));";
-
-#[test]
-fn tables_are_refused(rt: HostRuntime) -> Result<(), Fail> {
-    for (schema, table, text) in [
-        (NUMBERS, "", "! 5 noheader n\n"),
-        (NUMBERS, "p,r\n", "! 5 header n 2\n"),
-        (NUMBERS, "p,q\n1\n", "! 5 width n 1\n"),
-        (NUMBERS, "p,q\n12.505,1\n", "! 5 field n 1 1\n"),
-        (NUMBERS, "p,q\n1,9223372036854775808\n", "! 5 field n 1 2\n"),
-        (NUMBERS, "p,q\n1,\n", "! 5 field n 1 2\n"),
-        (KEYED, "p,q\n1,\n2,\n3,\n4,\n2,\n", "! 5 doublekey n 2 5\n"),
-        (ORDERED, "p,q\n1,\n3,\n2,\n", "! 5 outoforder n 3\n"),
-        (
-            REFERRING,
-            "p,q\n2,1\n1,3\n3,4\n4,9\n",
-            "! 5 notarget n 4 1\n",
-        ),
-        (REFERRING, "p,q\n2,1\n1,\n", "! 5 field n 2 2\n"),
-    ] {
-        let (answer, out) = run(&rt, rt.alloc(), [schema, "SELECT * FROM n;", table], 0, 0)?;
-        assert_eq!(rt; answer.code(), 5);
-        assert_eq!(rt; out.bytes(), text.as_bytes());
-    }
-    Ok(())
-}
-
-/// A table with a byte order mark, quoted fields and line ends of two bytes.
-const NOTES: &str = "\u{FEFF}id,body\r\n1,\"a, \"\"b\"\"\nc\"\r\n2,\r\n";
-
-#[test]
-fn typed_rows_are_written_as_csv(rt: HostRuntime) -> Result<(), Fail> {
-    let notes = "TABLE \"my notes\" FROM 't.csv' (id INT NOT NULL, body TEXT, KEY (id));";
-    for (schema, query, table, rows) in [
-        (
-            notes,
-            "select * from \"my notes\" -- all",
-            NOTES,
-            "R 1,\"a, \"\"b\"\"\nc\"\n",
-        ),
-        (
-            NUMBERS,
-            "SELECT * FROM n",
-            "p,q\n-0.050,+7\n,-0\n",
-            "R -0.05,7\n",
-        ),
-        (
-            NUMBERS,
-            "SELECT * FROM n",
-            "p,q\n-0.050,+7\n,-0\n",
-            "R ,0\n",
-        ),
-        (REFERRING, "SELECT * FROM n", "p,q\n2,1\n1,2\n", "R 1,2\n"),
-    ] {
-        let (answer, out) = run(&rt, rt.alloc(), [schema, query, table], 0, 0)?;
-        assert_eq!(rt; answer, Status::Done);
-        assert!(rt; contains(out.bytes(), rows.as_bytes()));
-    }
-    Ok(())
-}
-
-fn contains(text: &[u8], part: &[u8]) -> bool {
-    (0..text.len()).any(|at| text[at..].starts_with(part))
 }
 
 #[test]
 fn faults_in_turn(rt: HostRuntime) -> Result<(), Fail> {
-    let files = [SCHEMA, QUERY, "a\n7\n8\n9\n"];
-    // The first six lines were written where the seventh write fails.
-    let (status, out) = run(&rt, rt.alloc(), files, 0, 7)?;
-    assert_eq!(rt; status, Status::WriteFault);
-    assert_eq!(rt; out.bytes().iter().filter(|b| **b == b'\n').count(), 6);
-    for write in 1..14 {
-        let (status, out) = run(&rt, rt.alloc(), files, 0, write)?;
+    let alloc: Global = rt.alloc();
+    for write in 1..24 {
+        let mut files = shop(alloc, QUERY, ITEMS)?;
+        files.piece(1);
+        let mut out = MemSink::new(alloc, 4096)?;
+        out.fail_at(write)?;
+        let status = command(&rt, alloc, "run s q", &mut files, &mut out)?;
         assert_eq!(rt; status, Status::WriteFault);
-        assert!(rt; THREE.as_bytes().starts_with(out.bytes()));
+        assert!(rt; WHOLE.as_bytes().starts_with(out.bytes()));
     }
-    assert_eq!(rt; run(&rt, rt.alloc(), files, 0, 14)?.0, Status::Done);
-    // Each file is begun once, and then read byte by byte to its end.
+    let mut files = shop(alloc, QUERY, ITEMS)?;
+    let mut out = MemSink::new(alloc, 4096)?;
+    out.fail_finish();
+    assert_eq!(rt; command(&rt, alloc, "run s q", &mut files, &mut out)?, Status::WriteFault);
+    assert_eq!(rt; out.bytes(), WHOLE.as_bytes());
     for (call, role, line) in [
         (1, Role::Schema, "! 7 read s\n"),
-        (40, Role::Schema, "! 7 read s\n"),
-        (41, Role::Query, "! 7 read q\n"),
-        (58, Role::Table(0), "! 7 read t.csv\n"),
-        (60, Role::Table(0), "! 7 read t.csv\n"),
+        (4, Role::Query, "! 7 read q\n"),
+        (7, Role::Table(1), "! 7 read sale.csv\n"),
+        (12, Role::Table(0), "! 7 read item.csv\n"),
     ] {
-        let (status, out) = run(&rt, rt.alloc(), files, call, 0)?;
+        let mut files = shop(alloc, QUERY, ITEMS)?;
+        files.fail_at(call)?;
+        let mut out = MemSink::new(alloc, 4096)?;
+        let status = command(&rt, alloc, "run s q", &mut files, &mut out)?;
         assert_eq!(rt; status, Status::ReadFault { role }, "{call}");
         assert_eq!(rt; out.bytes(), line.as_bytes());
     }
+    Ok(())
+}
+
+/// So many keyless rows of one number, which eight sources join with themselves.
+#[test]
+fn wide_plans_are_refused(rt: HostRuntime) -> Result<(), Fail> {
+    let alloc: Global = rt.alloc();
+    let mut table = String::from_str(alloc, "x\n")?;
+    for _ in 0..20_000 {
+        table.push_str("1\n")?;
+    }
+    let query = "SELECT a.x FROM n a JOIN n b ON a.x = b.x JOIN n c ON a.x = c.x JOIN n d ON a.x = d.x \
+JOIN n e ON a.x = e.x JOIN n f ON a.x = f.x JOIN n g ON a.x = g.x JOIN n h ON a.x = h.x";
+    let mut files = MemFiles::new(alloc);
+    for (name, text) in [
+        ("s", "TABLE n FROM 'n.csv' (x INT NOT NULL);"),
+        ("q", query),
+        ("n.csv", table.as_str()),
+    ] {
+        files.put(&Txt::new(alloc, name)?, text.as_bytes())?;
+    }
+    let mut out = MemSink::new(alloc, 4096)?;
+    let status = command(&rt, alloc, "run s q", &mut files, &mut out)?;
+    assert_eq!(rt; status.code(), 9);
+    let line = "! 9 toowide 51201280064003200160008000400160000\n";
+    assert_eq!(rt; out.bytes(), line.as_bytes());
     Ok(())
 }

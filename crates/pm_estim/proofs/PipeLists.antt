@@ -14,7 +14,7 @@ use Rattle.pm_plan.proofs.Walks.{length-list_at}
 use Rattle.pm_estim.specs.declared.pipes.Pipe.{Pipe}
 use Rattle.pm_estim.specs.declared.pipes.Numbers.{Numbers}
 use Rattle.pm_estim.specs.Pipelines.{drivers_of, cuts, pipes_from, driven}
-use Rattle.pm_estim.specs.Lists.{pipes_with, driven_sum}
+use Rattle.pm_estim.specs.Lists.{pipes_with, pipes_in, driven_sum}
 use Rattle.pm_estim.specs.Steps.{is_built, numbers_below, IsPlaced}
 
 abbrev pipe_of : (ℕ × Bool) → Pipe
@@ -79,6 +79,16 @@ length-zip (x ∷ xs) (y ∷ ys) e = omega (arith, length-zip xs ys (omega (arit
 length-mapped : (f : (ℕ × Bool) → Pipe) (xs : List (ℕ × Bool)) → length (map f xs) ≡ length xs
 length-mapped f [] = refl
 length-mapped f (x ∷ xs) = omega (arith, length-mapped f xs)
+
+length-pipes_with : (own next : ℕ) (t : Tree) → length (pipes_with (pipes_from own next t) t) ≡ size t
+length-pipes_with own next t =
+    length-mapped pipe_of (zip (pipes_from own next t) (drivers_of t))
+    ∙ length-zip (pipes_from own next t) (drivers_of t) (length-pipes own next t ∙ sym (length-drivers t))
+    ∙ length-pipes own next t
+
+-- each node has one
+pub length-pipes_in : (t : Tree) → length (pipes_in t) ≡ size t
+length-pipes_in t = length-pipes_with 1 2 t
 
 -- of the nodes of two trees
 both_with : (l r : Tree) (ls rs : List ℕ) → length ls ≡ size l → map pipe_of (zip (ls ++ rs) (drivers_of l ++ drivers_of r)) ≡ pipes_with ls l ++ pipes_with rs r
@@ -195,11 +205,7 @@ module _ {X : Type 0} (value : X → ℕ) (f : Tree → ℕ → X) (s : Tree →
   sums t n = driven (λ u m. value (f u m)) t n
 
   length-with : (own next : ℕ) (t : Tree) (n : ℕ) → length (pipes_with (pipes_from own next t) t) ≡ length (list_at f s t n)
-  length-with own next t n =
-      length-mapped pipe_of (zip (pipes_from own next t) (drivers_of t))
-      ∙ length-zip (pipes_from own next t) (drivers_of t) (length-pipes own next t ∙ sym (length-drivers t))
-      ∙ length-pipes own next t
-      ∙ sym (length-list_at f s t n)
+  length-with own next t n = length-pipes_with own next t ∙ sym (length-list_at f s t n)
 
   -- one node before those of a list
   one_more : (own : ℕ) (driver : Bool) (x : X) (ps : List Pipe) (xs : List X) (rest : ℕ) → sum_by counted (zip ps xs) ≡ rest

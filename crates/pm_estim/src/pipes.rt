@@ -164,8 +164,8 @@ impl Pipes {
         self.pipes[node as usize - 1].driver
     }
 
-    // The places as a slice.
-    pub(crate) fn as_slice(&self) -> &[Pipe]
+    /// Where each operator stands, in the plan's order.
+    pub fn as_slice(&self) -> &[Pipe]
         ensures { result.now ≡ self.now }
     {
         self.pipes.as_slice()

@@ -5,10 +5,15 @@ pub mod Builds
 pub mod Sides
 pub mod Hashes
 pub mod HashSteps
+pub mod Mergings
+pub mod MergeSides
+pub mod MergeSteps
 pub mod Lookups
 pub mod IndexSteps
 pub mod Notes
 pub mod Noting
+pub mod MergeNoting
+pub mod TreeNoting
 pub mod GaugeLists
 pub mod Groups
 pub mod GroupSteps

@@ -13,23 +13,19 @@ use Rattle.pm_values.proofs.KeysAppended.{worst-append_key, worst-append_null}
 use Rattle.pm_plan.specs.Rows.{Db, table_rows, decls_of}
 use Rattle.pm_plan.specs.Joins.{right_columns, keys_of, rows_for, worst, multiplicity, matches}
 use Rattle.pm_plan.specs.Kinds.{width}
-use Rattle.pm_plan.specs.Tree.{Unary, Filter, Project, Sort, Group, Hash, Merge, On, Tree, Scan, Over, Join, Index, Seek, size, right_number}
-use Rattle.pm_plan.specs.Outputs.{output, rows_over, sought, keeps_if}
-use Rattle.pm_plan.proofs.Walks.{EachAt-root}
-use Rattle.pm_work.proofs.Counting.{events_each}
-use Rattle.pm_work.specs.Events.{events, events_of, rows_at}
+use Rattle.pm_plan.specs.Tree.{Unary, Hash, On, Tree, Over, Join, Index, Seek, size, right_number}
+use Rattle.pm_plan.specs.Outputs.{output, keeps_if}
+use Rattle.pm_work.specs.Events.{events_of, rows_at}
 use Rattle.pm_work.specs.Moments.{Counts, worst_at}
 use Rattle.pm_work.specs.Changes.{settled_by_row, settled_by_sought, last_row, worst_with}
 use Rattle.pm_work.proofs.EventLists.{Within, Within-first, Only-events_of, rows_at-other, rows_at-outside}
 use Rattle.pm_work.proofs.Cuts.{front_of}
-use Rattle.pm_work.proofs.EventLaws.{size_pos, Within-events, rows_at-events}
+use Rattle.pm_work.proofs.EventLaws.{size_pos}
 use Rattle.pm_exec.specs.declared.taken.Taken.{Taken}
 use Rattle.pm_exec.specs.Coming.{Coming, event_of, taken_by, taken_read, rows_by, read, rows_in, after}
-use Rattle.pm_exec.specs.Hashed.{entered}
 use Rattle.pm_exec.specs.Sought.{kept_row, seek_rows, looked_up}
-use Rattle.pm_exec.specs.Plan.{is_run, coming, taken_in}
 use Rattle.pm_exec.proofs.Streams.{neq-eqb}
-use Rattle.pm_exec.proofs.Comings.{event-rows_by, event-coming, rows_in-at, run_below, run_sides}
+use Rattle.pm_exec.proofs.Comings.{event-rows_by, rows_in-at}
 use Rattle.pm_exec.proofs.Notes.{AllNoted, apart-noted, FromBelow, cut-append, cut-after, rows_of, rows_of-append, history, FromHistory, cut-history}
 
 -- an event of a tree at these counts
@@ -43,7 +39,7 @@ pub record Noted (db : Db) (K : Counts) (t : Tree) (n : ℕ) (e : Coming) : Type
 abbrev pub Agree : Counts → List Coming → ℕ → ℕ → Type 0
 Agree K done a b = (m : ℕ) → a ≤ m → m < b → K m ≡ length (rows_of m done)
 
-row_taken : (n : ℕ) (free : Bool) (rows : List Row) (done left : List Coming) (e : Coming) → done ++ e ∷ left ≡ rows_by n free rows → e.taken ≡ taken_by n
+pub row_taken : (n : ℕ) (free : Bool) (rows : List Row) (done left : List Coming) (e : Coming) → done ++ e ∷ left ≡ rows_by n free rows → e.taken ≡ taken_by n
 row_taken n free [] [] left e is = absurd cc
 row_taken n free [] (d ∷ done) left e is = absurd cc
 row_taken n free (r ∷ rows) [] left e is =
@@ -51,16 +47,16 @@ row_taken n free (r ∷ rows) [] left e is =
 row_taken n free (r ∷ rows) (d ∷ done) left e is =
     let tail : done ++ e ∷ left ≡ rows_by n free rows = cc in row_taken n free rows done left e tail
 
-quiet_rows : (n : ℕ) (free : Bool) (m : ℕ) → (m ≡ n → ⊥) → (rows : List Row) → rows_of m (rows_by n free rows) ≡ []
+pub quiet_rows : (n : ℕ) (free : Bool) (m : ℕ) → (m ≡ n → ⊥) → (rows : List Row) → rows_of m (rows_by n free rows) ≡ []
 quiet_rows n free m other rows = ap (rows_at m) (event-rows_by n free rows) ∙ rows_at-other n m (events_of n rows) (Only-events_of n rows) other
 
-plus_zero : (k : ℕ) → k + 0 ≡ k
+pub plus_zero : (k : ℕ) → k + 0 ≡ k
 plus_zero k = omega arith
 
-max_zero : (k : ℕ) → k ≡ max k 0
+pub max_zero : (k : ℕ) → k ≡ max k 0
 max_zero k = omega arith
 
-front_at : (k : ℕ) (xs ys out : List Row) → k ≡ length xs → xs ++ ys ≡ out → take k out ≡ xs
+pub front_at : (k : ℕ) (xs ys out : List Row) → k ≡ length xs → xs ++ ys ≡ out → take k out ≡ xs
 front_at k xs ys out k_is is = ap (λ j. take j out) k_is ∙ front_of xs ys out is
 
 worst-append : (columns : List ℕ) (rows : List Row) (row : Row) → worst columns (rows ++ row ∷ []) ≡ worst_with columns rows row
@@ -97,7 +93,7 @@ history-events c own other own_same other_same rows (x ∷ es) =
 
 module _ (db : Db) (K : Counts) where
   -- a row of the root
-  own_noted : (t : Tree) (n : ℕ) (e : Coming) → 1 ≤ n → e.taken ≡ taken_by n → Noted db K t n e
+  pub own_noted : (t : Tree) (n : ℕ) (e : Coming) → 1 ≤ n → e.taken ≡ taken_by n → Noted db K t n e
   own_noted t n e some is = record {
     all = apart-noted db K e.taken e.row t n (record { node = inl (omega (arith, ap (λ x. x.node) is)); reader = inl (omega (arith, ap (λ x. x.reader) is, some)) });
     low = omega (arith, ap (λ x. x.node) is);
@@ -106,7 +102,7 @@ module _ (db : Db) (K : Counts) where
   }
 
   -- an event that none of these nodes reads
-  reads_other : (n m : ℕ) (t : Taken) → 1 ≤ n → n < m → (b : ℕ) → (t.reader ≡ 0) ⊎ ((m ≤ t.reader) × (t.reader < b)) → eqb t.reader n ≡ false
+  pub reads_other : (n m : ℕ) (t : Taken) → 1 ≤ n → n < m → (b : ℕ) → (t.reader ≡ 0) ⊎ ((m ≤ t.reader) × (t.reader < b)) → eqb t.reader n ≡ false
   reads_other n m t some l b reader = neq-eqb t.reader n (λ z. elim reader [ inl p ↦ omega (arith, p, z, some) | inr q ↦ omega (arith, q.0, z, l) ])
 
   -- ---- a child whose rows are read as they come
@@ -114,7 +110,7 @@ module _ (db : Db) (K : Counts) where
   module _ (op : Unary) (child : Tree) (n : ℕ) (some : 1 ≤ n) (S : Row → ℕ) (settles : (rows : List Row) (row : Row) → settled_by_row op rows row ≡ S row)
       (called : Row → List Row) (below : List Coming)
       (deeper : (done left : List Coming) (e : Coming) → done ++ e ∷ left ≡ below → Agree K done (n + 1) (n + 1 + size child) → Noted db K child (n + 1) e) where
-    streamed_noted : (done left : List Coming) (e : Coming) → done ++ e ∷ left ≡ after (n + 1) (read n S) (λ row. rows_by n true (called row)) below
+    pub streamed_noted : (done left : List Coming) (e : Coming) → done ++ e ∷ left ≡ after (n + 1) (read n S) (λ row. rows_by n true (called row)) below
         → Agree K done n (n + (1 + size child)) → Noted db K (Over op child) n e
     streamed_noted done left e is agree =
         elim (cut-after (n + 1) (read n S) (λ row. rows_by n true (called row)) (λ m. m ≡ n → ⊥) (λ m q row. quiet_rows n true m q (called row)) (λ x. refl) below done left e is) [
@@ -155,7 +151,7 @@ module _ (db : Db) (K : Counts) where
     abbrev in_other : Coming → Coming
     in_other e = record { taken = e.taken; row = e.row; free = false }
 
-    taken_in_noted : (done left : List Coming) (e : Coming) → done ++ e ∷ left ≡ history (n + 1) in_own in_other [] below
+    pub taken_in_noted : (done left : List Coming) (e : Coming) → done ++ e ∷ left ≡ history (n + 1) in_own in_other [] below
         → Agree K done n (n + (1 + size child)) → Noted db K (Over op child) n e
     taken_in_noted done left e is agree =
         let i = cut-history (n + 1) in_own in_other (λ rows x. refl) (λ x. refl) [] below done left e is in
@@ -216,7 +212,7 @@ module _ (db : Db) (K : Counts) where
     enter_other e = record { taken = e.taken; row = e.row; free = false }
 
     -- an event of the right side
-    right_noted : (done rest : List Coming) (e : Coming) → done ++ e ∷ rest ≡ history r enter_own enter_other [] rights
+    pub right_noted : (done rest : List Coming) (e : Coming) → done ++ e ∷ rest ≡ history r enter_own enter_other [] rights
         → Agree K done n (n + (1 + (size left + size right))) → Noted db K (Join (Hash pad) on left right) n e
     right_noted done rest e is agree =
         let i = cut-history r enter_own enter_other (λ rows x. refl) (λ x. refl) [] rights done rest e is in
@@ -271,7 +267,7 @@ module _ (db : Db) (K : Counts) where
             })
 
     -- one of the left side, or a row of its own
-    left_noted : (done more rest : List Coming) (e : Coming) → done ≡ history r enter_own enter_other [] rights ++ more
+    pub left_noted : (done more rest : List Coming) (e : Coming) → done ≡ history r enter_own enter_other [] rights ++ more
         → more ++ e ∷ rest ≡ after (n + 1) (read n S) (λ l. rows_by n true (called l)) lefts
         → Agree K done n (n + (1 + (size left + size right))) → Noted db K (Join (Hash pad) on left right) n e
     left_noted done more rest e done_is is agree =
@@ -411,7 +407,7 @@ module _ (db : Db) (K : Counts) where
           reader = inr (omega (arith, reader), omega (arith, reader));
         }
 
-    sought_noted : (done rest : List Coming) (e : Coming) → done ++ e ∷ rest ≡ looked_up c n seek_number seek.on.pairs table [] lefts
+    pub sought_noted : (done rest : List Coming) (e : Coming) → done ++ e ∷ rest ≡ looked_up c n seek_number seek.on.pairs table [] lefts
         → rows_of (n + 1) done ++ rows_of (n + 1) (e ∷ rest) ≡ output db left → Agree K done n (n + (2 + size left)) → Noted db K whole n e
     sought_noted done rest e is all agree =
         elim (cut-after (n + 1) (read seek_number finds) looks (λ m. (m ≡ n → ⊥) × (m ≡ seek_number → ⊥)) (λ m q l. quiet_looks m q l (matches seek.on.pairs l table)) (λ x. refl) lefts done rest e is) [
@@ -457,72 +453,3 @@ module _ (db : Db) (K : Counts) where
                   high = omega (arith, h.high);
                   reader = elim h.reader [ inl p ↦ inl p | inr q ↦ inr (omega (arith, q.0), omega (arith, q.1)) ];
                 })
-
--- ---- any tree
-
-taken_in-history : (op : Unary) (n : ℕ) (rows : List Row) (es : List Coming) → taken_in n (settled_by_row op) rows es
-    ≡ history (n + 1) (λ rows e. record { taken = taken_read n (settled_by_row op rows e.row) 0 e.taken; row = e.row; free = false }) (λ e. record { taken = e.taken; row = e.row; free = false }) rows es
-taken_in-history op n rows [] = refl
-taken_in-history op n rows (e ∷ es) = rw (taken_in-history op n (rows ++ e.row ∷ []) es, taken_in-history op n rows es) refl
-
-entered-history : (n r : ℕ) (columns : List ℕ) (rows : List Row) (es : List Coming) → entered n r columns rows es
-    ≡ history r (λ rows e. record { taken = taken_read n 0 (worst columns (rows ++ e.row ∷ [])) e.taken; row = e.row; free = false }) (λ e. record { taken = e.taken; row = e.row; free = false }) rows es
-entered-history n r columns rows [] = refl
-entered-history n r columns rows (e ∷ es) = rw (entered-history n r columns (rows ++ e.row ∷ []) es, entered-history n r columns rows es) refl
-
-module _ (db : Db) (K : Counts) where
-  -- a child that is read in first, and then the rows of its own
-  module _ (op : Unary) (child : Tree) (n : ℕ) (run : is_run child ≡ true) (some : 1 ≤ n)
-      (deeper : (done left : List Coming) (e : Coming) → done ++ e ∷ left ≡ coming db child (n + 1) → Agree K done (n + 1) (n + 1 + size child) → Noted db K child (n + 1) e) where
-    read_in_noted : (done left : List Coming) (e : Coming)
-        → done ++ e ∷ left ≡ taken_in n (settled_by_row op) [] (coming db child (n + 1)) ++ rows_by n false (rows_over op (rows_in (n + 1) (coming db child (n + 1))))
-        → Agree K done n (n + (1 + size child)) → Noted db K (Over op child) n e
-    read_in_noted done left e is agree =
-        let below : List Coming = coming db child (n + 1) in
-        let out : List Row = rows_over op (rows_in (n + 1) below) in
-        elim (cut-append done left (taken_in n (settled_by_row op) [] below) (rows_by n false out) e is) [
-          | inl p ↦
-              taken_in_noted db K op child n some below (output db child) (ap (rows_at (n + 1)) (event-coming db child (n + 1) run) ∙ rows_at-events db child (n + 1)) refl deeper
-              done p.0 e (p.1 ∙ taken_in-history op n [] below) agree
-          | inr p ↦ own_noted db K (Over op child) n e some (row_taken n false out p.0 left e p.2)
-        ]
-
-  pub coming_noted : (t : Tree) (n : ℕ) → is_run t ≡ true → 1 ≤ n → (done left : List Coming) (e : Coming) → done ++ e ∷ left ≡ coming db t n
-      → Agree K done n (n + size t) → Noted db K t n e
-  coming_noted (Scan table label) n run some done left e is agree = own_noted db K (Scan table label) n e some (row_taken n true (table_rows db table) done left e is)
-  coming_noted (Over (Filter c) child) n run some done left e is agree =
-      streamed_noted db K (Filter c) child n some (settled_by_row (Filter c) []) (λ rows row. refl) (λ row. rows_over (Filter c) (row ∷ [])) (coming db child (n + 1))
-      (coming_noted child (n + 1) (run_below (Filter c) child run) (omega arith)) done left e is agree
-  coming_noted (Over (Project columns) child) n run some done left e is agree =
-      streamed_noted db K (Project columns) child n some (settled_by_row (Project columns) []) (λ rows row. refl) (λ row. rows_over (Project columns) (row ∷ [])) (coming db child (n + 1))
-      (coming_noted child (n + 1) (run_below (Project columns) child run) (omega arith)) done left e is agree
-  coming_noted (Over (Sort keys) child) n run some done left e is agree =
-      read_in_noted (Sort keys) child n (run_below (Sort keys) child run) some (coming_noted child (n + 1) (run_below (Sort keys) child run) (omega arith)) done left e is agree
-  coming_noted (Over (Group keys items) child) n run some done left e is agree =
-      read_in_noted (Group keys items) child n (run_below (Group keys items) child run) some (coming_noted child (n + 1) (run_below (Group keys items) child run) (omega arith)) done left e is agree
-  coming_noted (Join (Hash pad) on lt rt) n run some done left e is agree =
-      let r : ℕ = right_number n lt in
-      let runs = run_sides (Hash pad) on lt rt run in
-      let lefts : List Coming = coming db lt (n + 1) in
-      let rights : List Coming = coming db rt r in
-      let right_events : map event_of rights ≡ events db rt r = event-coming db rt r runs.2 in
-      let ran : rows_of r rights ≡ output db rt = ap (rows_at r) right_events ∙ rows_at-events db rt r in
-      let lw : Within (n + 1) r (map event_of lefts) = subst (Within (n + 1) r) (sym (event-coming db lt (n + 1) runs.1)) (Within-events db lt (n + 1)) in
-      let rwi : Within r (r + size rt) (map event_of rights) = subst (Within r (r + size rt)) (sym right_events) (Within-events db rt r) in
-      let of_left = coming_noted lt (n + 1) runs.1 (omega arith) in
-      let of_right = coming_noted rt r runs.2 (omega arith) in
-      let first : List Coming = entered n r (right_columns on.pairs) [] rights in
-      let behind : List Coming = after (n + 1) (read n (λ l. length (rows_for (Hash pad) on.pairs (width (decls_of db) rt) (rows_in r rights) l))) (λ l. rows_by n true (rows_for (Hash pad) on.pairs (width (decls_of db) rt) (rows_in r rights) l)) lefts in
-      elim (cut-append done left first behind e is) [
-        | inl p ↦ right_noted db K pad on lt rt n some lefts rights ran lw rwi of_left of_right done p.0 e (p.1 ∙ entered-history n r (right_columns on.pairs) [] rights) agree
-        | inr p ↦ left_noted db K pad on lt rt n some lefts rights ran lw rwi of_left of_right done p.0 left e (p.1 ∙ ap (λ s. s ++ p.0) (entered-history n r (right_columns on.pairs) [] rights)) p.2 agree
-      ]
-  coming_noted (Join Merge on lt rt) n run some done left e is agree = absurd cc
-  coming_noted (Index lt seek c) n run some done left e is agree =
-      let r : ℕ = right_number n lt in
-      let t : Tree = Index lt seek c in
-      let all : map event_of (coming db t n) ≡ events db t n = event-coming db t n run in
-      let lefts : rows_of (n + 1) (coming db t n) ≡ output db lt =
-      ap (rows_at (n + 1)) all ∙ EachAt-root (λ u m. rows_at m (events db t n) ≡ output db u) (λ u k m. rows_at (right_number m u) (events db t n) ≡ sought db k (output db u)) lt (n + 1) (events_each db t n).2 in
-      sought_noted db K lt seek c n some (coming db lt (n + 1)) (coming_noted lt (n + 1) run (omega arith)) done left e is
-      (sym (rows_of-append (n + 1) done (e ∷ left)) ∙ ap (rows_of (n + 1)) is ∙ lefts) agree

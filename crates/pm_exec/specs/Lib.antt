@@ -8,6 +8,9 @@ pub mod ProjectFlow
 pub mod SideFlow
 pub mod BuildFlow
 pub mod HashFlow
+pub mod Merged
+pub mod MergeSideFlow
+pub mod MergeFlow
 pub mod Sought
 pub mod LookupFlow
 pub mod IndexFlow

@@ -8,7 +8,8 @@ use Rattle.pm_plan.specs.declared.plan.Node.{Node}
 use Rattle.pm_plan.specs.declared.plan.Pair.{Pair}
 use Rattle.pm_plan.specs.Rows.{Db, table_rows, decls_of}
 use Rattle.pm_plan.specs.declared.plan.Aggregate.{Aggregate}
-use Rattle.pm_plan.specs.Joins.{left_columns, right_columns}
+use Rattle.pm_plan.specs.Joins.{left_columns, right_columns, keys_of, join}
+use Rattle.pm_joins.proofs.Ascending.{Ascend}
 use Rattle.pm_plan.specs.Tree.{Unary, Filter, Project, Sort, Group, Method, Hash, Merge, Tree, Scan, Over, Join, Index, Each, streams, right_number}
 use Rattle.pm_plan.specs.Preorder.{IsTreeAt}
 use Rattle.pm_plan.specs.Kinds.{width}
@@ -20,6 +21,7 @@ use Rattle.pm_exec.specs.Coming.{Coming, taken_read, rows_by, rows_in, streamed}
 use Rattle.pm_blocks.specs.Limits.{AreFew, IsWithin}
 use Rattle.pm_blocks.specs.SortedNumbers.{sort_columns}
 use Rattle.pm_exec.specs.Hashed.{hashed}
+use Rattle.pm_exec.specs.Merged.{merging}
 use Rattle.pm_exec.specs.Sought.{IsWellFormedIf, looked_up}
 use Rattle.pm_exec.specs.Flow.{Flow}
 
@@ -40,24 +42,7 @@ coming_over op n below =
 -- a join whose sides have these events, the right side having number r and rows of so many columns
 abbrev pub coming_joined : Method → List Pair → ℕ → ℕ → ℕ → List Coming → List Coming → List Coming
 coming_joined (Hash pad) pairs n r wide lefts rights = hashed n pad pairs r wide rights lefts
-coming_joined Merge pairs n r wide lefts rights = []
-
--- the operators that are run so far
-abbrev pub is_run_over : Unary → Bool
-is_run_over (Filter cond) = true
-is_run_over (Project columns) = true
-is_run_over (Sort keys) = true
-is_run_over (Group keys items) = true
-
-abbrev pub is_run_method : Method → Bool
-is_run_method (Hash pad) = true
-is_run_method Merge = false
-
-abbrev pub is_run : Tree → Bool
-is_run (Scan table label) = true
-is_run (Over op child) = is_run_over op && is_run child
-is_run (Join method on left right) = is_run_method method && (is_run left && is_run right)
-is_run (Index left seek cond) = is_run left
+coming_joined Merge pairs n r wide lefts rights = merging n r pairs [] lefts rights
 
 -- the events of a tree whose root has number n
 abbrev pub coming : Db → Tree → ℕ → List Coming
@@ -92,14 +77,13 @@ reads_few_at db (Index left seek cond) = Unit {0}
 abbrev pub GroupsReadFew : Db → Tree → Type 0
 GroupsReadFew db tree = Each (reads_few_at db) (λ left seek. Unit {0}) tree
 
--- a valid tree of these operators stands at node n of the list, its events can be counted in 128 bits, and its groups read few enough rows
+-- a valid tree stands at node n of the list, its events can be counted in 128 bits, and its groups read few enough rows
 pub record IsRunnable (nodes : List Node) (db : Db) (n : ℕ) : Type 0 where
   pub some : 1 ≤ n
   pub tree : Tree
   pub stands : IsTreeAt nodes tree n
   pub tables : All IsRelation db
   pub operators : IsValidTree (decls_of db) tree
-  pub run : is_run tree ≡ true
   pub few : length (events db tree n) < 2 ^ 128
   pub groups : GroupsReadFew db tree
 
@@ -168,6 +152,16 @@ pub record CanJoin (n : ℕ) (pairs : List Pair) (l r : Flow) : Type 0 where
   pub rights : AllBelow (right_columns pairs) (length r.hand)
   pub few : length pairs < 2 ^ 32
   pub room : length r.rest < 2 ^ 32 - 1
+
+pub record MergesWell (pairs : List Pair) (lefts rights : List Row) : Type 0 where
+  pub lefts_ascend : Ascend (keys_of (left_columns pairs) lefts)
+  pub rights_ascend : Ascend (keys_of (right_columns pairs) rights)
+  pub few : length (join pairs lefts rights) < 2 ^ 128
+
+-- what a merge join asks besides: the keys of both sides ascend, and its rows can be counted in 128 bits
+abbrev pub CanMerge : Method → ℕ → List Pair → Flow → Flow → Type 0
+CanMerge (Hash pad) n pairs l r = Unit {0}
+CanMerge Merge n pairs l r = MergesWell pairs (rows_in (n + 1) l.rest) (rows_in r.node r.rest)
 
 abbrev pub joined : Method → ℕ → List Pair → Flow → Flow → List Coming
 joined method n pairs left right = coming_joined method pairs n right.node (length right.hand) left.rest right.rest

@@ -1,8 +1,10 @@
 //! The gauges that a run keeps: what it knows of each node after the events so far.
 ghost use Rattle.std.specs.Prelude.{◌≡◌, ◌<◌, length, map, All, IfOk, IfSome, IsSome};
 ghost use Rattle.pm_values.specs.Keys.{worst};
+ghost use Rattle.pm_plan.specs.Preorder.{tree_of};
 ghost use Rattle.pm_plan.specs.Rows.{table_rows};
 ghost use Rattle.pm_work.specs.Fits.{Fits};
+ghost use Rattle.pm_work.specs.Moments.{gauges_at};
 ghost use Rattle.pm_exec.specs.Gauged.{IsAmong, IsCounted, first_gauge};
 ghost use Rattle.pm_exec.specs.Indexes.{IsReadable, index_of};
 ghost use Rattle.pm_exec.specs.Noted.{gauges_with};
@@ -60,7 +62,8 @@ fn first_gauge(db: &Db, node: &Node, index: &Option<Index<'_>>) -> Gauge
     }
 }
 
-/// The gauges of a plan's nodes before the first event, in the plan's order.
+/// The gauges of a plan's nodes before the first event, in the plan's order, from the plan's indexes. Only want
+/// of memory fails it.
 pub fn first_gauges(
     alloc: Global,
     plan: &Plan,
@@ -69,7 +72,7 @@ pub fn first_gauges(
 ) -> Result<Vec<Gauge>, AllocError>
     requires fits { Fits plan.now db.now }
     requires indexes { indexes.now ≡ map (index_of db.now) plan.now.nodes }
-    ensures { IfOk result (λ gauges. gauges.items ≡ map (first_gauge db.now) plan.now.nodes) }
+    ensures { IfOk result (λ gauges. gauges.items ≡ gauges_at db.now (tree_of plan.now.nodes) 0) }
 {
     let mut gauges = Vec::new(alloc);
     let nodes = plan.nodes.as_slice();

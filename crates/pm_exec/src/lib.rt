@@ -18,6 +18,8 @@ mod inner;
 mod iter;
 mod laws;
 mod lookup;
+mod merge;
+mod merge_side;
 mod part;
 mod project;
 mod scan;
@@ -30,5 +32,6 @@ mod tick;
 
 pub use columns::{JoinColumns, KeyColumns, key_columns};
 pub use exec::{Exec, runs_fit};
+pub use gauges::first_gauges;
 pub use indexes::{Indexes, seek_indexes};
 pub use tick::Tick;

@@ -2,3 +2,4 @@ mod Paces
 mod Moments
 mod RootRows
 mod Turns
+mod BoundLines

@@ -3,3 +3,5 @@ pub mod Pace
 pub mod IsMeter
 pub mod RunState
 pub mod IsRun
+pub mod ExplainText
+pub mod Worked

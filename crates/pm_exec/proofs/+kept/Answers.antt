@@ -43,3 +43,23 @@ index::IndexJoin::kept_cell-returns t c =
     rw (← c.self.view_is)
     (c.cell.ensures ∙ ap (λ p. value_in_row p (c.args.at - a.left_width)) c.first_of.ensures
     ∙ ap (λ w. value_in_row (get_or c.args.parts.now 0 part.Nulls) (c.args.at - w)) (sym c.self.invariant.laid) ∙ sym i.value)
+
+pub merge::Merge::kept_cell-cell-requires-clause-has : goal.merge::Merge::kept_cell-cell-requires-clause-has
+merge::Merge::kept_cell-cell-requires-clause-has t c =
+    let a = c.self.inside in
+    let wide : ℕ = length a.side.right.hand in
+    let has : HasValue (held_beside wide a.left.held) c.args.parts.now c.args.at = subst (λ f. HasValue f.held c.args.parts.now c.args.at) (sym c.self.view_is) c.requires in
+    let past : length a.left.held.places ≤ c.args.at = omega (arith, c.self.invariant.laid) in
+    let i = last-in wide a.left.held c.args.parts.now c.args.at has past in
+    subst (λ w. HasColumn c.first_of.result (c.args.at - w)) c.self.invariant.laid (subst (λ p. HasColumn p (c.args.at - length a.left.held.places)) (sym c.first_of.ensures) i.has)
+
+pub merge::Merge::kept_cell-returns : goal.merge::Merge::kept_cell-returns
+merge::Merge::kept_cell-returns t c =
+    let a = c.self.inside in
+    let wide : ℕ = length a.side.right.hand in
+    let has : HasValue (held_beside wide a.left.held) c.args.parts.now c.args.at = subst (λ f. HasValue f.held c.args.parts.now c.args.at) (sym c.self.view_is) c.requires in
+    let past : length a.left.held.places ≤ c.args.at = omega (arith, c.self.invariant.laid) in
+    let i = last-in wide a.left.held c.args.parts.now c.args.at has past in
+    rw (← c.self.view_is)
+    (c.cell.ensures ∙ ap (λ p. value_in_row p (c.args.at - a.left_width)) c.first_of.ensures
+    ∙ ap (λ w. value_in_row (get_or c.args.parts.now 0 part.Nulls) (c.args.at - w)) (sym c.self.invariant.laid) ∙ sym i.value)

@@ -1,5 +1,0 @@
-pub mod Texts
-pub mod Chosen
-pub mod References
-pub mod Calls
-pub mod Stops
