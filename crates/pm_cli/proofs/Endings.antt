@@ -1,7 +1,6 @@
 -- how a command ends, from how preparing ended
-use Rattle.std.proofs.Common.{◌≡◌, ◌≢◌, ◌⊎◌, ℕ, List, [], ◌∷◌, ◌++◌, Option, Some, None, Result, Ok, Err, refl, sym, ap, subst, ◌∙◌, inl, inr}
-use Rattle.std.specs.Prelude.{IfSome, IfErr}
-use Rattle.pm_io.specs.Files.{Held}
+use Rattle.std.proofs.Common.{◌≡◌, ◌⊎◌, ℕ, List, [], ◌∷◌, ◌++◌, Option, Some, None, Result, Ok, Err, refl, sym, ap, subst, ◌∙◌, inl, inr}
+use Rattle.std.specs.Prelude.{IfSome}
 use Rattle.pm_io.specs.Sink.{gained, GainsPart}
 use Rattle.pm_io.specs.declared.stand.Stand.{Stand}
 use Rattle.pm_io.specs.declared.stand.Stand.TheVariants as stand

@@ -1,6 +1,5 @@
 -- the numbers of what is ready are certified, and its rows are those that the query asks for
-use Rattle.std.proofs.Common.{◌≡◌, ◌∙◌}
-use Rattle.std.specs.Prelude.{All}
+use Rattle.std.proofs.Common.{◌∙◌}
 use Rattle.pm_plan.specs.Preorder.{tree_of}
 use Rattle.pm_plan.specs.Rows.{Db}
 use Rattle.pm_plan.specs.Tree.{Tree}

@@ -2,10 +2,8 @@
 use Rattle.std.proofs.Common.{◌≡◌, ◌∙◌, ℕ, ap, sym, List, Option, Some, None, Result, Ok, Err, refl}
 use Rattle.std.specs.Prelude.{IfSome}
 use Rattle.pm_io.specs.Files.{Held}
-use Rattle.pm_requests.specs.declared.request.Request.{Request}
 use Rattle.pm_requests.specs.declared.refusal.Refusal.{Refusal}
 use Rattle.pm_requests.specs.declared.refusal.Refusal.TheVariants as refusal
-use Rattle.pm_requests.specs.Calls as requests
 use Rattle.pm_requests.proofs.Once as request
 use Rattle.pm_requests.proofs.SomeAnswer as some
 use Rattle.pm_commands.specs.declared.command.Command.{Command}

@@ -1,5 +1,5 @@
 -- what the stages of preparing answer, together
-use Rattle.std.proofs.Common.{◌≡◌, ◌⊎◌, ◌∙◌, ◌≤◌, ℕ, ap, sym, subst, List, Option, Some, None, Result, Ok, Err, refl, inl, inr, arith}
+use Rattle.std.proofs.Common.{◌≡◌, ◌⊎◌, ◌∙◌, ℕ, ap, List, Option, Some, None, Result, Ok, Err, refl, inl, inr, arith}
 use Rattle.std.specs.Prelude.{IfSome, IfErr, IsErrOf}
 use Rattle.pm_io.specs.Files.{Held}
 use Rattle.pm_io.specs.Counts.{Rose}
@@ -13,7 +13,6 @@ use Rattle.pm_build.specs.declared.building.BuildBad.{BuildBad}
 use Rattle.pm_build.specs.declared.building.BuildBad.TheVariants as bad
 use Rattle.pm_build.specs.Built.{built}
 use Rattle.pm_requests.specs.declared.request.Request.{Request}
-use Rattle.pm_requests.specs.declared.refusal.Role.{Role}
 use Rattle.pm_requests.specs.declared.refusal.Refusal.{Refusal}
 use Rattle.pm_requests.specs.declared.refusal.Refusal.TheVariants as refusal
 use Rattle.pm_requests.specs.Calls as requests

@@ -1,5 +1,5 @@
 -- what words and files call for: a plan with its request and output, or the first refusal
-use Rattle.std.specs.Prelude.{◌≡◌, ℕ, List, Option, Some, None, Result, Ok, Err, IfSome}
+use Rattle.std.specs.Prelude.{◌≡◌, ℕ, List, Option, Some, None, Result, Ok, Err}
 use Rattle.pm_io.specs.Files.{Held}
 use Rattle.pm_plan.specs.declared.plan.Plan.{Plan}
 use Rattle.pm_work.specs.Fits.{sizes_of}

@@ -1,17 +1,14 @@
-use Rattle.std.proofs.Common.{◌≡◌, ◌⊎◌, ◌∙◌, Ok, Err, subst, sym, ap}
-use Rattle.std.specs.Prelude.{Result, None}
-use Rattle.pm_io.specs.Sink.{gained, GainsPart}
-use Rattle.pm_io.specs.Counts.{Rose}
+use Rattle.std.proofs.Common.{◌≡◌, ◌⊎◌, ◌∙◌, Err, subst, sym, ap}
+use Rattle.std.specs.Prelude.{Result}
+use Rattle.pm_io.specs.Sink.{GainsPart}
 use Rattle.pm_commands.specs.declared.preparing.Prepared.{Prepared}
 use Rattle.pm_commands.specs.declared.stop.Stop.{Stop}
 use Rattle.pm_commands.specs.Commands.{command_in, told}
-use Rattle.pm_commands.specs.Calls.{ReachesBy}
 use Rattle.pm_commands.proofs.Certain.{certified}
-use Rattle.pm_cli.specs.declared.status.Status.{Status}
 use Rattle.pm_cli.specs.declared.status.Status.TheVariants as status
 use Rattle.pm_cli.specs.Lines.{line_of}
-use Rattle.pm_cli.specs.Status.{called_status, status_of}
-use Rattle.pm_cli.specs.Endings.{Answers, HasFault, IfRole, IsUnfinished, IsRefused, OnAbsent, OnBroken, called_text}
+use Rattle.pm_cli.specs.Status.{called_status}
+use Rattle.pm_cli.specs.Endings.{Answers, HasFault, IfRole, IsUnfinished, OnAbsent, OnBroken, called_text}
 use Rattle.pm_cli.proofs.Endings.{where-told, of-run, run-answers, run-ends, run-unrefused, run-known, on-own, on-demo, own-so, demo-so, unfinished-is-memory, part-of-nothing, stop-not-done, stop-written, stop-usage, usage-status, no-usage, stop-answers, stop-ends, files-read, stop-file, stop-stands, stop-sure, stop-role, stop-fault}
 use Rattle.pm_cli.proofs.top.monitor_main.Goals as goal
 

@@ -1,6 +1,5 @@
-use Rattle.std.proofs.Common.{◌≡◌, ℕ, List, Option, Some, ap, subst}
-use Rattle.std.specs.Prelude.{IfErr, IfSome}
-use Rattle.pm_io.specs.Files.{Held}
+use Rattle.std.proofs.Common.{Some, subst}
+use Rattle.std.specs.Prelude.{IfErr}
 use Rattle.pm_io.specs.MemState.{MemState, held_of}
 use Rattle.pm_requests.specs.Stops.{IfFile, Reaches}
 use Rattle.pm_commands.specs.Calls.{Asks}
