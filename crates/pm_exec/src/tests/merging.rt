@@ -8,17 +8,14 @@ ghost use Rattle.pm_exec.specs.Worked.{ascending, merged_pairs};
 use super::{NO_FLAGS, Trace, gauge, name, pairs, plan, rows, run_through};
 use crate::{key_columns, seek_indexes};
 use pm_plan::{Node, Nodes};
-use pm_values::{ColumnDecl, ColumnDecls, Columns, Db, Kind, References, Rows, Table, TableDecl, Txt};
+use pm_values::{
+    ColumnDecl, ColumnDecls, Columns, Db, Kind, References, Rows, Table, TableDecl, Txt,
+};
 use std::alloc::{AllocError, Global};
 use std::test::Fail;
 
 /// A table of one column, by which its rows ascend.
-fn ordered_table(
-    alloc: Global,
-    name: &str,
-    column: &str,
-    rows: Rows,
-) -> Result<Table, AllocError>
+fn ordered_table(alloc: Global, name: &str, column: &str, rows: Rows) -> Result<Table, AllocError>
     requires { IsRelation (over (declared name.now (integer_column column.now ∷ []) None (Some (0 ∷ []))) rows) }
     ensures { IfOk result (λ table. table ≡ over (declared name.now (integer_column column.now ∷ []) None (Some (0 ∷ []))) rows) }
 {
