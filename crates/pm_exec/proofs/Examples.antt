@@ -1,5 +1,5 @@
 -- the plans of the tests fit their tables
-use Rattle.std.proofs.Common.{◌≡◌, ◌≢◌, ℕ, zero, suc, ◌≤◌, true, [], length, refl, sym, ap, ◌∙◌, subst, arith}
+use Rattle.std.proofs.Common.{◌≡◌, ◌≢◌, ℕ, zero, suc, ◌≤◌, [], length, refl, sym, ap, ◌∙◌, subst, arith}
 use Rattle.std.specs.Prelude.{None, slice_get, codes}
 use Rattle.pm_values.specs.declared.condition.Comparison.TheVariants as comparison
 use Rattle.pm_values.specs.declared.condition.Operand.TheVariants as operand
@@ -16,7 +16,6 @@ use Rattle.pm_plan.proofs.Preorders.{tree_of-nodes_of}
 use Rattle.pm_work.specs.First.{too_wide}
 use Rattle.pm_work.specs.Fits.{sizes_of, ReferencesBetween, ReferencesHold, Fits}
 use Rattle.pm_work.proofs.Examples.{IsPlanOf}
-use Rattle.pm_exec.specs.Plan.{is_run}
 use Rattle.pm_exec.specs.Worked.{ascending, joined_with_none, merged_pairs}
 
 fits_of : (plan : Plan) (db : Db) (tree : Tree) → IsPlanOf plan (decls_of db) tree → IsValidTree (decls_of db) tree → length (tables_of tree) ≤ 8 → too_wide (sizes_of db) tree ≡ None
@@ -73,7 +72,3 @@ merged_fits plan is =
       (refl, omega arith),
     )
     (omega arith) refl (λ k child h j parent g. none_between_there _ _)
-
--- the tree of a plan is run
-pub run_of : (plan : Plan) (tree : Tree) → plan.nodes ≡ nodes_of tree 1 → is_run tree ≡ true → is_run (tree_of plan.nodes) ≡ true
-run_of plan tree is run = ap (λ ns. is_run (tree_of ns)) is ∙ ap is_run (tree_of-nodes_of tree) ∙ run

@@ -30,7 +30,7 @@ use Rattle.pm_work.proofs.Joins.{length-filter_take, joined_take_le}
 use Rattle.pm_exec.specs.declared.taken.Taken.{Taken}
 use Rattle.pm_exec.specs.Coming.{Coming, event_of}
 use Rattle.pm_exec.specs.Flow.{Flow, TakesOne}
-use Rattle.pm_exec.specs.Plan.{coming, is_run}
+use Rattle.pm_exec.specs.Plan.{coming}
 use Rattle.pm_exec.specs.Noted.{gauges_with}
 use Rattle.pm_exec.specs.Gauged.{IsAmong, IsCounted, first_gauge}
 use Rattle.pm_exec.specs.Ran.{Ran}
@@ -65,13 +65,13 @@ module _ (db : Db) where
 
 -- ---- one event more
 
-pub gauges_noted : (db : Db) (tree : Tree) (done left : List Coming) (e : Coming) → IsSound db tree → is_run tree ≡ true → done ++ e ∷ left ≡ coming db tree 1
+pub gauges_noted : (db : Db) (tree : Tree) (done left : List Coming) (e : Coming) → IsSound db tree → done ++ e ∷ left ≡ coming db tree 1
     → gauges_of db tree 1 (counts (map event_of (done ++ e ∷ []))) ≡ gauges_with 1 e.taken (gauges_of db tree 1 (counts (map event_of done)))
-gauges_noted db tree done left e sound run is =
-    let all : map event_of done ++ event_of e ∷ map event_of left ≡ events db tree 1 = sym (map-append event_of done (e ∷ left)) ∙ ap (map event_of) is ∙ event-coming db tree 1 run in
+gauges_noted db tree done left e sound is =
+    let all : map event_of done ++ event_of e ∷ map event_of left ≡ events db tree 1 = sym (map-append event_of done (e ∷ left)) ∙ ap (map event_of) is ∙ event-coming db tree 1 in
     subst (λ es. gauges_of db tree 1 (counts es) ≡ gauges_with 1 e.taken (gauges_of db tree 1 (counts (map event_of done)))) (sym (map-append event_of done (e ∷ [])))
     (gauges_next db (map event_of done) (map event_of left) e.taken e.row tree sound all
-    (coming_noted db (counts (map event_of done)) tree 1 run (merges_ascend db sound.tables tree sound.operators) (omega arith) done left e is (λ m l h. refl)).all)
+    (coming_noted db (counts (map event_of done)) tree 1 (merges_ascend db sound.tables tree sound.operators) (omega arith) done left e is (λ m l h. refl)).all)
 
 module _ {X : Type 0} where
   take-more : (k : ℕ) (xs ys : List X) (y : X) → drop k xs ≡ y ∷ ys → take (k + 1) xs ≡ take k xs ++ y ∷ []
@@ -91,7 +91,7 @@ map-take f zero xs = refl
 map-take f (suc k) [] = refl
 map-take f (suc k) (x ∷ xs) = ap (λ ys. f x ∷ ys) (map-take f k xs)
 
-module _ (ran : Ran) (root : Flow) (is : IsRootOf ran root) (run : is_run (tree_of ran.plan.nodes) ≡ true) (taken : Taken) (new : Flow) (t : TakesOne root taken new) where
+module _ (ran : Ran) (root : Flow) (is : IsRootOf ran root) (taken : Taken) (new : Flow) (t : TakesOne root taken new) where
   abbrev tree : Tree
   tree = tree_of ran.plan.nodes
 
@@ -105,20 +105,20 @@ module _ (ran : Ran) (root : Flow) (is : IsRootOf ran root) (run : is_run (tree_
   at = sym is.rest ∙ t.next
 
   so_far : (k : ℕ) → map event_of (take k es) ≡ take k (events ran.db tree 1)
-  so_far k = map-take event_of k es ∙ ap (take k) (event-coming ran.db tree 1 run)
+  so_far k = map-take event_of k es ∙ ap (take k) (event-coming ran.db tree 1)
 
   pub gauges_after : IsSound ran.db tree → gauges_at ran.db tree (ran.taken + 1) ≡ gauges_with 1 taken (gauges_at ran.db tree ran.taken)
   gauges_after sound =
       let G : List Event → List Gauge = λ xs. gauges_of ran.db tree 1 (counts xs) in
       ap G (sym (so_far (ran.taken + 1)) ∙ ap (map event_of) (take-more ran.taken es new.rest e at))
-      ∙ gauges_noted ran.db tree (take ran.taken es) new.rest e sound run (take-cut ran.taken es new.rest e at)
+      ∙ gauges_noted ran.db tree (take ran.taken es) new.rest e sound (take-cut ran.taken es new.rest e at)
       ∙ ap (λ xs. gauges_with 1 taken (G xs)) (so_far ran.taken)
 
   pub event_among : IsSound ran.db tree → IsAmong (length (gauges_at ran.db tree ran.taken)) taken
   event_among sound =
       let K : Counts = counts (map event_of (take ran.taken es)) in
       let noted : Noted ran.db K tree 1 e =
-      coming_noted ran.db K tree 1 run (merges_ascend ran.db sound.tables tree sound.operators) (omega arith) (take ran.taken es) new.rest e (take-cut ran.taken es new.rest e at) (λ m l h. refl) in
+      coming_noted ran.db K tree 1 (merges_ascend ran.db sound.tables tree sound.operators) (omega arith) (take ran.taken es) new.rest e (take-cut ran.taken es new.rest e at) (λ m l h. refl) in
       let many : length (gauges_at ran.db tree ran.taken) ≡ size tree =
       length-list_at (λ u m. gauge_of ran.db u m (counts (take ran.taken (events ran.db tree 1)))) (λ left seek m. seek_gauge ran.db left seek m (counts (take ran.taken (events ran.db tree 1)))) tree 1 in
       record {

@@ -44,23 +44,6 @@ abbrev pub coming_joined : Method → List Pair → ℕ → ℕ → ℕ → List
 coming_joined (Hash pad) pairs n r wide lefts rights = hashed n pad pairs r wide rights lefts
 coming_joined Merge pairs n r wide lefts rights = merging n r pairs [] lefts rights
 
--- the operators that are run so far
-abbrev pub is_run_over : Unary → Bool
-is_run_over (Filter cond) = true
-is_run_over (Project columns) = true
-is_run_over (Sort keys) = true
-is_run_over (Group keys items) = true
-
-abbrev pub is_run_method : Method → Bool
-is_run_method (Hash pad) = true
-is_run_method Merge = true
-
-abbrev pub is_run : Tree → Bool
-is_run (Scan table label) = true
-is_run (Over op child) = is_run_over op && is_run child
-is_run (Join method on left right) = is_run_method method && (is_run left && is_run right)
-is_run (Index left seek cond) = is_run left
-
 -- the events of a tree whose root has number n
 abbrev pub coming : Db → Tree → ℕ → List Coming
 coming db (Scan table label) n = rows_by n true (table_rows db table)
@@ -94,14 +77,13 @@ reads_few_at db (Index left seek cond) = Unit {0}
 abbrev pub GroupsReadFew : Db → Tree → Type 0
 GroupsReadFew db tree = Each (reads_few_at db) (λ left seek. Unit {0}) tree
 
--- a valid tree of these operators stands at node n of the list, its events can be counted in 128 bits, and its groups read few enough rows
+-- a valid tree stands at node n of the list, its events can be counted in 128 bits, and its groups read few enough rows
 pub record IsRunnable (nodes : List Node) (db : Db) (n : ℕ) : Type 0 where
   pub some : 1 ≤ n
   pub tree : Tree
   pub stands : IsTreeAt nodes tree n
   pub tables : All IsRelation db
   pub operators : IsValidTree (decls_of db) tree
-  pub run : is_run tree ≡ true
   pub few : length (events db tree n) < 2 ^ 128
   pub groups : GroupsReadFew db tree
 

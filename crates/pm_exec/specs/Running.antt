@@ -1,11 +1,11 @@
 -- what is true of every run
-use Rattle.std.specs.Prelude.{◌≡◌, ◌≤◌, ◌<◌, ◌^◌, true, false, drop, length, All}
+use Rattle.std.specs.Prelude.{◌≡◌, ◌≤◌, ◌<◌, ◌^◌, false, drop, length, All}
 use Rattle.pm_values.specs.Table.{IsRelation}
 use Rattle.pm_plan.specs.Preorder.{tree_of}
 use Rattle.pm_work.specs.Fits.{Fits}
 use Rattle.pm_work.specs.Moments.{gauges_at}
 use Rattle.pm_exec.specs.Flow.{Flow}
-use Rattle.pm_exec.specs.Plan.{coming, ends_free, is_run}
+use Rattle.pm_exec.specs.Plan.{coming, ends_free}
 use Rattle.pm_exec.specs.Ran.{Ran, run_events, HasRootRow, last_row}
 use Rattle.pm_exec.specs.declared.exec.Exec.TheInside.{Inside}
 
@@ -23,7 +23,6 @@ pub record IsRootOf (ran : Ran) (root : Flow) : Type 0 where
 pub record IsRunning (a : Inside) : Type 0 where
   pub fits : Fits a.plan.now a.db.now
   pub declared : All IsRelation a.db.now
-  pub run : is_run (tree_of a.plan.now.nodes) ≡ true
   pub root : a.failed ≡ false → IsRootOf (ran_of a) a.root
   pub gauges : a.gauges.items ≡ gauges_at a.db.now (tree_of a.plan.now.nodes) a.taken
   pub within : a.taken ≤ length (run_events (ran_of a))

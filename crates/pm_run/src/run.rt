@@ -8,7 +8,6 @@ ghost use Rattle.pm_work.specs.Moments.{counts_at, gauge_in, gauges_at};
 ghost use Rattle.pm_bounds.specs.Bounds.{whole_of};
 ghost use Rattle.pm_exec.specs.Indexes.{index_of};
 ghost use Rattle.pm_exec.specs.KeyColumns.{join_columns};
-ghost use Rattle.pm_exec.specs.Plan.{is_run};
 ghost use Rattle.pm_run.specs.Text.{event_lines, head_text, end_text, run_text};
 ghost use Rattle.pm_run.specs.RunState.{CanTurn, whole_work_in, turn_text};
 
@@ -72,7 +71,6 @@ impl<'a> Run<'a> {
         requires fits { Fits plan.now db.now }
         requires keys { keys.now ≡ map join_columns plan.now.nodes }
         requires indexes { indexes.now ≡ map (index_of db.now) plan.now.nodes }
-        requires run { is_run (tree_of plan.now.nodes) ≡ true }
         requires every { IfSome every (λ n. 1 ≤ n) }
         ensures { IfOk result (λ run. run ≡ record { plan = plan.entry.now; db = db.entry.now; every = every; taken = 0; stage = Stage.Fresh }) }
     {
@@ -180,7 +178,6 @@ pub fn run_all<S: Sink>(
     sink: &mut S,
 ) -> Result<(), LineBad>
     requires fits { Fits plan.now db.now }
-    requires run { is_run (tree_of plan.now.nodes) ≡ true }
     requires every { IfSome every (λ n. 1 ≤ n) }
     ensures whole { OnOk result (S.written sink.new ≡ gained (S.written sink.old) (run_text plan.now db.now every)) }
     ensures part { OnErr result (GainsPart (S.written sink.old) (S.written sink.new) (run_text plan.now db.now every)) }
@@ -205,7 +202,6 @@ fn run_over<S: Sink>(
     requires fits { Fits plan.now db.now }
     requires keys { keys.now ≡ map join_columns plan.now.nodes }
     requires indexes { indexes.now ≡ map (index_of db.now) plan.now.nodes }
-    requires run { is_run (tree_of plan.now.nodes) ≡ true }
     requires every { IfSome every (λ n. 1 ≤ n) }
     ensures whole { OnOk result (S.written sink.new ≡ gained (S.written sink.old) (run_text plan.now db.now every)) }
     ensures part { OnErr result (GainsPart (S.written sink.old) (S.written sink.new) (run_text plan.now db.now every)) }

@@ -3,4 +3,4 @@ use Rattle.pm_exec.proofs.Gauging.{gauges_noted}
 use Rattle.pm_exec.proofs.laws.notes_change_gauges.Goals as goal
 
 pub returns : goal.returns
-returns c = record { events = λ db tree run. event-coming db tree 1 run; gauges = gauges_noted }
+returns c = record { events = λ db tree. event-coming db tree 1; gauges = gauges_noted }

@@ -1,7 +1,7 @@
 use Rattle.std.proofs.Common.{◌∙◌, refl, sym, subst}
 use Rattle.pm_work.specs.Fits.{Fits}
 use Rattle.pm_exec.specs.Worked.{joined_with_none}
-use Rattle.pm_exec.proofs.Examples.{joined_fits, run_of}
+use Rattle.pm_exec.proofs.Examples.{joined_fits}
 use Rattle.pm_exec.proofs.tests.joined_with_none.Goals as goal
 
 pub seek_indexes-requires-clause-fits : goal.seek_indexes-requires-clause-fits
@@ -21,6 +21,3 @@ run_through-requires-clause-fits c =
       kinds = c.in_ok-plan.ensures.kinds;
       heads = c.in_ok-plan.ensures.heads;
     }))
-
-pub run_through-requires-clause-run : goal.run_through-requires-clause-run
-run_through-requires-clause-run c = run_of c.in_ok-plan.plan joined_with_none (c.in_ok-plan.ensures.nodes ∙ c.in_ok-joined_nodes.ensures) refl

@@ -1,7 +1,7 @@
 use Rattle.std.proofs.Common.{◌∙◌, refl, sym, subst}
 use Rattle.pm_work.specs.Fits.{Fits}
 use Rattle.pm_exec.specs.Worked.{merged_pairs}
-use Rattle.pm_exec.proofs.Examples.{merged_fits, run_of}
+use Rattle.pm_exec.proofs.Examples.{merged_fits}
 use Rattle.pm_exec.proofs.tests.merging.merged.Goals as goal
 
 pub seek_indexes-requires-clause-fits : goal.seek_indexes-requires-clause-fits
@@ -21,6 +21,3 @@ run_through-requires-clause-fits c =
       kinds = c.in_ok-plan.ensures.kinds;
       heads = c.in_ok-plan.ensures.heads;
     }))
-
-pub run_through-requires-clause-run : goal.run_through-requires-clause-run
-run_through-requires-clause-run c = run_of c.in_ok-plan.plan merged_pairs (c.in_ok-plan.ensures.nodes ∙ c.in_ok-merged_nodes.ensures) refl
