@@ -16,7 +16,7 @@ use Rattle.pm_plan.proofs.Preorders.{tree_of-nodes_of}
 use Rattle.pm_work.specs.First.{too_wide}
 use Rattle.pm_work.specs.Fits.{sizes_of, ReferencesBetween, ReferencesHold, Fits}
 use Rattle.pm_work.proofs.Examples.{IsPlanOf}
-use Rattle.pm_exec.specs.Worked.{joined_with_none}
+use Rattle.pm_exec.specs.Worked.{ascending, joined_with_none, merged_pairs}
 
 fits_of : (plan : Plan) (db : Db) (tree : Tree) → IsPlanOf plan (decls_of db) tree → IsValidTree (decls_of db) tree → length (tables_of tree) ≤ 8 → too_wide (sizes_of db) tree ≡ None
     → ReferencesHold db tree → Fits plan db
@@ -54,3 +54,21 @@ joined_fits plan is =
       ((fold_compare (condition_layer (kinds_of (decls_of keyless) (Scan 1 (label (codes "b") (codes "b"))))) comparison.Greater (operand.Column 0 0) (operand.Literal (number 9) 0), omega arith), (refl, omega arith)),
     )
     (omega arith) refl (λ k child h j parent g. none_between _ _)
+
+-- of tables whose rows ascend
+no_references_there : (k : ℕ) → references_or_none (slice_get (decls_of ascending) k) ≡ []
+no_references_there zero = refl
+no_references_there (suc zero) = refl
+no_references_there (suc (suc k)) = refl
+
+none_between_there : (child parent : ℕ) → ReferencesBetween ascending child parent
+none_between_there child parent = λ k d h. absurd (omega (arith, h, ap length (no_references_there child)))
+
+pub merged_fits : (plan : Plan) → IsPlanOf plan (decls_of ascending) merged_pairs → Fits plan ascending
+merged_fits plan is =
+    fits_of plan ascending merged_pairs is (
+      (record { pairs = record { some = one_pair 0 0; few = omega arith; fit = refl }; flags = refl; joinable = refl; source = refl; ordered = record { lefts = refl; rights = refl } }, omega arith),
+      (refl, omega arith),
+      (refl, omega arith),
+    )
+    (omega arith) refl (λ k child h j parent g. none_between_there _ _)

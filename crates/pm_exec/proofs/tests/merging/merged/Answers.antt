@@ -1,0 +1,23 @@
+use Rattle.std.proofs.Common.{◌∙◌, refl, sym, subst}
+use Rattle.pm_work.specs.Fits.{Fits}
+use Rattle.pm_exec.specs.Worked.{merged_pairs}
+use Rattle.pm_exec.proofs.Examples.{merged_fits}
+use Rattle.pm_exec.proofs.tests.merging.merged.Goals as goal
+
+pub seek_indexes-requires-clause-fits : goal.seek_indexes-requires-clause-fits
+seek_indexes-requires-clause-fits c =
+    subst (Fits c.in_ok-plan.plan) (sym c.in_ok-db.ensures)
+    (merged_fits c.in_ok-plan.plan (record {
+      nodes = c.in_ok-plan.ensures.nodes ∙ c.in_ok-merged_nodes.ensures;
+      kinds = c.in_ok-plan.ensures.kinds;
+      heads = c.in_ok-plan.ensures.heads;
+    }))
+
+pub run_through-requires-clause-fits : goal.run_through-requires-clause-fits
+run_through-requires-clause-fits c =
+    subst (Fits c.in_ok-plan.plan) (sym c.in_ok-db.ensures)
+    (merged_fits c.in_ok-plan.plan (record {
+      nodes = c.in_ok-plan.ensures.nodes ∙ c.in_ok-merged_nodes.ensures;
+      kinds = c.in_ok-plan.ensures.kinds;
+      heads = c.in_ok-plan.ensures.heads;
+    }))
