@@ -1,3 +1,4 @@
+pub mod Gathered
 pub mod Outside
 pub mod Parts
 pub mod Places

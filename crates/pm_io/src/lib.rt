@@ -5,12 +5,14 @@
 
 mod fault;
 mod files;
+mod line_start;
 mod log;
 mod mem_file;
 mod mem_files;
 mod mem_sink;
 mod os_files;
 mod os_sink;
+mod outlet;
 mod read;
 mod sink;
 mod stand;
