@@ -1,5 +1,6 @@
 pub mod Counts
 pub mod Files
+pub mod LineStart
 pub mod Log
 pub mod MemState
 pub mod OutletState

@@ -32,4 +32,6 @@ pub use sure_files::SureFiles;
 pub use write::{WriteFault, write_whole};
 
 #[cfg(test)]
+mod sink_tests;
+#[cfg(test)]
 mod tests;

@@ -1,3 +1,6 @@
+ghost use Rattle.std.specs.Prelude.{◌≡◌, ◌≢◌, ℕ, List, [], ◌∷◌, ◌++◌};
+ghost use Rattle.pm_io.specs.LineStart.{start_of};
+
 /// What is known of a line by the bytes that it has so far.
 #[derive(Clone, Copy, Debug, PartialEq, Eq)]
 pub enum LineStart {
@@ -13,7 +16,10 @@ pub enum LineStart {
 
 impl LineStart {
     /// What is known after one more byte. After a line feed the next line begins.
-    pub fn after(self, byte: u8) -> Self {
+    pub fn after(self, byte: u8) -> Self
+        ensures feed { byte ≡ 10 → result ≡ start_of [] }
+        ensures more { (line : List ℕ) → self ≡ start_of line → byte ≢ 10 → result ≡ start_of (line ++ byte ∷ []) }
+    {
         match (self, byte) {
             (_, b'\n') => LineStart::Empty,
             (LineStart::Empty, b'P') => LineStart::Letter,

@@ -27,6 +27,8 @@ impl<W: Write + Drop> Model for OsSink<W> {
 }
 
 impl<W: Write + Drop> OsSink<W> {
+    ghost use Rattle.pm_io.specs.Counts.{counted};
+
     /// Nothing failed yet.
     pub fn new(writer: W) -> Self
         ensures { result ≡ 0 }
@@ -35,6 +37,13 @@ impl<W: Write + Drop> OsSink<W> {
             outlet: Outlet::new(writer),
             faults: 0,
         }
+    }
+
+    fn note_fault(&mut self)
+        ensures after { self.new ≡ counted self.old }
+        ensures faults { self.old ≤ self.new }
+    {
+        self.faults = self.faults.saturating_add(1);
     }
 }
 
@@ -48,7 +57,7 @@ impl<W: Write + Drop> Sink for OsSink<W> {
     fn write(&mut self, piece: &[u8]) -> Result<usize, IoFault> {
         let answer = self.outlet.write(piece);
         if answer.is_err() {
-            self.faults = self.faults.saturating_add(1);
+            self.note_fault();
         }
         answer
     }
@@ -56,7 +65,7 @@ impl<W: Write + Drop> Sink for OsSink<W> {
     fn finish(&mut self) -> Result<(), IoFault> {
         let answer = self.outlet.finish();
         if answer.is_err() {
-            self.faults = self.faults.saturating_add(1);
+            self.note_fault();
         }
         answer
     }
