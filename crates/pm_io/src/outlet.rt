@@ -1,4 +1,4 @@
-ghost use Rattle.std.specs.Prelude.{◌≡◌, ◌+◌, ◌<◌, ◌≤◌, length, IfOk, OnOk};
+ghost use Rattle.std.specs.Prelude.{◌≡◌, ℕ, ◌+◌, ◌<◌, ◌≤◌, List, [], length, take, IfOk, OnOk, OnErr};
 ghost use Rattle.std.specs.Io.KnownBytes.{Keeps, Appends, WriteAppends};
 
 use crate::fault::IoFault;
@@ -33,15 +33,20 @@ impl<W: Write + Drop> Model for Outlet<W> {
     ghost view = { λ o. record {
       taken = append_known (W.contents o.writer) (drop o.passed o.gathered.items);
       waiting = array_vec_len o.gathered;
+      line = o.line;
     } };
 
     ghost invariant = { λ o. o.passed ≤ array_vec_len o.gathered };
 }
 
 impl<W: Write + Drop> Outlet<W> {
+    ghost use Rattle.pm_io.specs.LineStart.{start_of, line_after, EndsProgress};
+
     /// Nothing is gathered yet.
     pub fn new(writer: W) -> Self
-        ensures { Keeps (W.contents writer) result.taken }
+        ensures bytes { Keeps (W.contents writer) result.taken }
+        ensures waiting { result.waiting ≡ 0 }
+        ensures line { result.line ≡ start_of [] }
     {
         Outlet {
             writer,
@@ -57,6 +62,11 @@ impl<W: Write + Drop> Outlet<W> {
         ensures some { IfOk result (λ n. 0 < n) }
         ensures amount { IfOk result (λ n. n ≤ length piece.now) }
         ensures bytes { WriteAppends self.old.taken self.new.taken result piece.now }
+        ensures line { IfOk result (λ n. (line : List ℕ) → self.old.line ≡ start_of line
+            → self.new.line ≡ start_of (line_after line (take n piece.now))) }
+        ensures same_line { OnErr result (self.new.line ≡ self.old.line) }
+        ensures shown { IfOk result (λ n. (line : List ℕ) → self.old.line ≡ start_of line
+            → EndsProgress line (take n piece.now) → self.new.waiting ≡ 0) }
     {
         if self.gathered.is_full() {
             self.pass_on()?;
@@ -64,7 +74,7 @@ impl<W: Write + Drop> Outlet<W> {
         let front = &piece[..piece.len().min(self.gathered.remaining_capacity())];
         let mut line = self.line;
         for (at, &byte) in front.iter().enumerate() {
-            if line == LineStart::Progress && byte == b'\n' {
+            if line.ends_progress(byte) {
                 return self.pass_line(&front[..at + 1]);
             }
             line = line.after(byte);
@@ -77,6 +87,7 @@ impl<W: Write + Drop> Outlet<W> {
     /// Passes on all that was gathered, and has the writer do so too.
     pub fn finish(&mut self) -> Result<(), IoFault>
         ensures bytes { Keeps self.old.taken self.new.taken }
+        ensures line { self.new.line ≡ self.old.line }
         ensures passed { OnOk result (self.new.waiting ≡ 0) }
     {
         self.pass_on()?;
@@ -89,6 +100,7 @@ impl<W: Write + Drop> Outlet<W> {
     /// Passes on what was gathered. What a fault keeps back stays gathered.
     fn pass_on(&mut self) -> Result<(), IoFault>
         ensures bytes { Keeps self.old.taken self.new.taken }
+        ensures line { self.new.line ≡ self.old.line }
         ensures passed { OnOk result (self.new.waiting ≡ 0) }
     {
         while self.passed < self.gathered.len() {
@@ -105,6 +117,10 @@ impl<W: Write + Drop> Outlet<W> {
         ensures some { IfOk result (λ n. 0 < n) }
         ensures amount { IfOk result (λ n. n ≤ length end.now) }
         ensures bytes { WriteAppends self.old.taken self.new.taken result end.now }
+        ensures line { IfOk result (λ n. (line : List ℕ) → self.old.line ≡ start_of line
+            → self.new.line ≡ start_of (line_after line (take n end.now))) }
+        ensures same_line { OnErr result (self.new.line ≡ self.old.line) }
+        ensures passed { OnOk result (self.new.waiting ≡ 0) }
     {
         self.pass_on()?;
         let n = write_some(&mut self.writer, end)?;
@@ -115,7 +131,8 @@ impl<W: Write + Drop> Outlet<W> {
     /// Gathers bytes for which there is room.
     fn gather(&mut self, bytes: &[u8])
         requires { self.old.waiting + length bytes.now ≤ 65536 }
-        ensures { Appends self.old.taken self.new.taken bytes.now }
+        ensures bytes { Appends self.old.taken self.new.taken bytes.now }
+        ensures line { self.new.line ≡ self.old.line }
     {
         self.gathered.try_extend_from_slice(bytes).unwrap();
     }

@@ -19,5 +19,6 @@ loop-self-preserved g c =
     in
     record {
       passed = omega (arith, c.in_ok-self-inside.ensures.amount, length-drop passed lent, whole, c.loop-self.invariant.passed);
+      line = c.loop-self.invariant.line;
       bytes = Keeps-trans _ _ _ c.loop-self.invariant.bytes (passes_more old new gathered passed n took);
     }

@@ -1,4 +1,4 @@
-use Rattle.std.proofs.Common.{◌-◌, ◌≤◌, length, drop}
+use Rattle.std.proofs.Common.{◌≡◌, ◌-◌, ◌≤◌, length, drop}
 use Rattle.std.specs.Io.KnownBytes.{Keeps, append_known}
 use Rattle.pm_io.proofs.outlet.Outlet.pass_on.Given as goal
 
@@ -7,6 +7,7 @@ invariant-loop-self g l =
     let now = l.self-inside in
     record {
       passed : now.passed ≤ length now.gathered.items;
+      line : now.line ≡ l.fn.self.line;
       bytes : Keeps l.fn.self.taken (append_known (g.W.Write.contents now.writer) (drop now.passed now.gathered.items));
     }
 
