@@ -1,3 +1,5 @@
+pub mod Gathered
+pub mod Lines
 pub mod Outside
 pub mod Parts
 pub mod Places

@@ -1,7 +1,9 @@
 pub mod Counts
 pub mod Files
+pub mod LineStart
 pub mod Log
 pub mod MemState
+pub mod OutletState
 pub mod Reading
 pub mod Sink
 pub mod SinkState

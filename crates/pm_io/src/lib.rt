@@ -5,12 +5,14 @@
 
 mod fault;
 mod files;
+mod line_start;
 mod log;
 mod mem_file;
 mod mem_files;
 mod mem_sink;
 mod os_files;
 mod os_sink;
+mod outlet;
 mod read;
 mod sink;
 mod stand;
@@ -29,5 +31,7 @@ pub use stand::Stand;
 pub use sure_files::SureFiles;
 pub use write::{WriteFault, write_whole};
 
+#[cfg(test)]
+mod sink_tests;
 #[cfg(test)]
 mod tests;

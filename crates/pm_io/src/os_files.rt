@@ -48,10 +48,15 @@ impl<'a, R: rt::Files> OsFiles<'a, R> {
                 self.file = Some(file);
                 Ok(true)
             }
-            Err(error) if error.kind() == ErrorKind::NotFound => Ok(false),
+            Err(error) if is_absence(error.kind()) => Ok(false),
             Err(_) => Err(IoFault::Failed),
         }
     }
+}
+
+/// Whether there is no such file: none of the name, or the path leads through something that is no folder.
+fn is_absence(kind: ErrorKind) -> bool {
+    matches!(kind, ErrorKind::NotFound | ErrorKind::NotADirectory)
 }
 
 /// Reads once, and again where a signal came before the first byte.

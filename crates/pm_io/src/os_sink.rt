@@ -1,14 +1,19 @@
-ghost use Rattle.std.specs.Prelude.{◌≡◌, ◌+◌, ◌<◌, ◌≤◌, length, None, IfOk};
+ghost use Rattle.std.specs.Prelude.{◌≡◌, ◌+◌, ◌<◌, ◌≤◌, None};
 
 use crate::fault::IoFault;
+use crate::outlet::Outlet;
 use crate::sink::Sink;
-use std::io::{ErrorKind, Write};
+use std::io::Write;
 use std::marker::Model;
 
 /// A writer of the operating system, as standard output. It tells no content.
+///
+/// What is written is gathered and passed on in the call that finds 64 KiB gathered, with the end of each progress line
+/// (a line that begins with `P `), and by `finish`. A fault is answered by the call that met it. What was gathered before
+/// stays for the next call; it is lost where the sink goes without a `finish`.
 #[derive(Drop)]
 pub struct OsSink<W: Write + Drop> {
-    writer: W,
+    outlet: Outlet<W>,
     faults: u64,
 }
 
@@ -22,28 +27,24 @@ impl<W: Write + Drop> Model for OsSink<W> {
 }
 
 impl<W: Write + Drop> OsSink<W> {
+    ghost use Rattle.pm_io.specs.Counts.{counted};
+
     /// Nothing failed yet.
     pub fn new(writer: W) -> Self
         ensures { result ≡ 0 }
     {
-        OsSink { writer, faults: 0 }
-    }
-}
-
-/// Writes once, and again where a signal came before the first byte. A write that takes nothing failed.
-fn write_some<W: Write>(writer: &mut W, piece: &[u8]) -> Result<usize, IoFault>
-    ensures some { IfOk result (λ n. 0 < n) }
-    ensures amount { IfOk result (λ n. n ≤ length piece.now) }
-{
-    for _ in 0..u64::MAX {
-        match writer.write(piece) {
-            Ok(0) => return Err(IoFault::Failed),
-            Ok(n) => return Ok(n),
-            Err(error) if error.kind() == ErrorKind::Interrupted => {}
-            Err(_) => return Err(IoFault::Failed),
+        OsSink {
+            outlet: Outlet::new(writer),
+            faults: 0,
         }
     }
-    Err(IoFault::Failed)
+
+    fn note_fault(&mut self)
+        ensures after { self.new ≡ counted self.old }
+        ensures faults { self.old ≤ self.new }
+    {
+        self.faults = self.faults.saturating_add(1);
+    }
 }
 
 impl<W: Write + Drop> Sink for OsSink<W> {
@@ -54,20 +55,18 @@ impl<W: Write + Drop> Sink for OsSink<W> {
     ghost faults = { λ faults. faults };
 
     fn write(&mut self, piece: &[u8]) -> Result<usize, IoFault> {
-        let answer = write_some(&mut self.writer, piece);
+        let answer = self.outlet.write(piece);
         if answer.is_err() {
-            self.faults = self.faults.saturating_add(1);
+            self.note_fault();
         }
         answer
     }
 
     fn finish(&mut self) -> Result<(), IoFault> {
-        match self.writer.flush() {
-            Ok(()) => Ok(()),
-            Err(_) => {
-                self.faults = self.faults.saturating_add(1);
-                Err(IoFault::Failed)
-            }
+        let answer = self.outlet.finish();
+        if answer.is_err() {
+            self.note_fault();
         }
+        answer
     }
 }

@@ -39,7 +39,7 @@ impl From<AllocError> for ReadOut {
 }
 
 /// The most bytes that one read asks for.
-const CHUNK: usize = 4096;
+const CHUNK: usize = 65536;
 
 /// The bytes of a whole file, of which there are at most `limit`.
 ///

@@ -73,10 +73,18 @@ fn the_operating_system(rt: HostRuntime) -> Result<(), Fail> {
     let mut files = OsFiles::new(&rt);
     let bytes = read_whole(rt.alloc(), &mut files, Txt::new(rt.alloc(), "f.txt")?, 3)?;
     assert_eq!(rt; bytes.as_slice(), b"abc".as_slice());
-    let absent = read_whole(rt.alloc(), &mut files, Txt::new(rt.alloc(), "g.txt")?, 3);
-    assert_eq!(rt; absent.err(), Some(ReadOut::Absent));
-    let folder = read_whole(rt.alloc(), &mut files, Txt::new(rt.alloc(), ".")?, 3);
-    assert_eq!(rt; folder.err(), Some(ReadOut::Failed));
+    // A name of 300 bytes is too long for the operating system.
+    let long = "n".repeat(rt.alloc(), 300)?;
+    let cases = [
+        ("g.txt", ReadOut::Absent),
+        ("f.txt/x", ReadOut::Absent),
+        (".", ReadOut::Failed),
+        (long.as_str(), ReadOut::Failed),
+    ];
+    for (name, want) in cases {
+        let answer = read_whole(rt.alloc(), &mut files, Txt::new(rt.alloc(), name)?, 3);
+        assert_eq!(rt; answer.err(), Some(want), "{name}");
+    }
 
     let mut sink = OsSink::new(rt.stdout());
     write_whole(&mut sink, b"written\n")?;
