@@ -1,6 +1,5 @@
-use Rattle.std.proofs.Common.{◌∙◌, refl, sym, subst}
+use Rattle.std.proofs.Common.{◌∙◌, sym, subst}
 use Rattle.pm_work.specs.Fits.{Fits}
-use Rattle.pm_work.specs.Worked.{counted_left_join}
 use Rattle.pm_work.proofs.Examples.{counted_left_join_fits}
 use Rattle.pm_exec.proofs.tests.counted_left_join.Goals as goal
 

@@ -1,6 +1,5 @@
-use Rattle.std.proofs.Common.{◌∙◌, refl, sym, subst}
+use Rattle.std.proofs.Common.{◌∙◌, sym, subst}
 use Rattle.pm_work.specs.Fits.{Fits}
-use Rattle.pm_exec.specs.Worked.{joined_with_none}
 use Rattle.pm_exec.proofs.Examples.{joined_fits}
 use Rattle.pm_exec.proofs.tests.joined_with_none.Goals as goal
 

@@ -1,6 +1,5 @@
-use Rattle.std.proofs.Common.{◌∙◌, refl, sym, subst}
+use Rattle.std.proofs.Common.{◌∙◌, sym, subst}
 use Rattle.pm_work.specs.Fits.{Fits}
-use Rattle.pm_exec.specs.Worked.{merged_pairs}
 use Rattle.pm_exec.proofs.Examples.{merged_fits}
 use Rattle.pm_exec.proofs.tests.merging.merged.Goals as goal
 
