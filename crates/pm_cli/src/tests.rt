@@ -55,19 +55,22 @@ H code,COUNT(*),SUM(s.n)\nR tea,2,5\nR rice,1,9\nR oil,1,\nE rows=3 work=20\n";
 const DEMO: &str = "N 1 project 2\nN 2 sort 3\nN 3 group 4\nN 4 hash 5 7 unique=right\nN 5 filter 6\nN 6 scan ord o\nN 7 scan cust c\n\
 H region,n,total\nP work=10 lo=10 hi=10 dne=10/10 safe=10/10 pmax=10/10 pct=100.00..100.00\nE rows=0 work=10\n";
 
-/// The shop's files, with this text of the query and this one of the items; an empty one is absent.
+/// Gives the file of this name this text; without text it is absent.
+fn put(alloc: Global, files: &mut MemFiles, name: &str, text: &str) -> Result<(), AllocError> {
+    if text.is_empty() {
+        return Ok(());
+    }
+    let name = Txt::new(alloc, name)?;
+    files.put(&name, text.as_bytes())
+}
+
+/// The shop's files, with this text of the query and this one of the items.
 fn shop(alloc: Global, query: &str, items: &str) -> Result<MemFiles, AllocError> {
     let mut files = MemFiles::new(alloc);
-    for (name, text) in [
-        ("s", SCHEMA),
-        ("q", query),
-        ("item.csv", items),
-        ("sale.csv", SALES),
-    ] {
-        if !text.is_empty() {
-            files.put(&Txt::new(alloc, name)?, text.as_bytes())?;
-        }
-    }
+    put(alloc, &mut files, "s", SCHEMA)?;
+    put(alloc, &mut files, "q", query)?;
+    put(alloc, &mut files, "item.csv", items)?;
+    put(alloc, &mut files, "sale.csv", SALES)?;
     Ok(files)
 }
 
@@ -152,7 +155,7 @@ fn faults_in_turn(rt: HostRuntime) -> Result<(), Fail> {
     Ok(())
 }
 
-/// So many keyless rows of one number, which eight sources join with themselves.
+// Eight sources of so many keyless rows.
 #[test]
 fn wide_plans_are_refused(rt: HostRuntime) -> Result<(), Fail> {
     let alloc: Global = rt.alloc();
@@ -163,13 +166,9 @@ fn wide_plans_are_refused(rt: HostRuntime) -> Result<(), Fail> {
     let query = "SELECT a.x FROM n a JOIN n b ON a.x = b.x JOIN n c ON a.x = c.x JOIN n d ON a.x = d.x \
 JOIN n e ON a.x = e.x JOIN n f ON a.x = f.x JOIN n g ON a.x = g.x JOIN n h ON a.x = h.x";
     let mut files = MemFiles::new(alloc);
-    for (name, text) in [
-        ("s", "TABLE n FROM 'n.csv' (x INT NOT NULL);"),
-        ("q", query),
-        ("n.csv", table.as_str()),
-    ] {
-        files.put(&Txt::new(alloc, name)?, text.as_bytes())?;
-    }
+    put(alloc, &mut files, "s", "TABLE n FROM 'n.csv' (x INT NOT NULL);")?;
+    put(alloc, &mut files, "q", query)?;
+    put(alloc, &mut files, "n.csv", table.as_str())?;
     let mut out = MemSink::new(alloc, 4096)?;
     let status = command(&rt, alloc, "run s q", &mut files, &mut out)?;
     assert_eq!(rt; status.code(), 9);
