@@ -1,5 +1,6 @@
 -- lines that grow byte by byte
-use Rattle.std.proofs.Common.{◌≡◌, ◌<◌, ◌+◌, ℕ, List, [], ◌∷◌, ◌++◌, length, take, get_or, refl, sym, ap, subst, ◌∙◌, add-one, take-suc}
+use Rattle.std.proofs.Common.{◌≡◌, ◌<◌, ◌≤◌, ◌+◌, ℕ, List, [], ◌∷◌, ◌++◌, length, take, get_or, refl, sym, ap, subst, ◌∙◌, add-one, take-suc, arith, inl, inr}
+use Rattle.std.proofs.Math.Nat.{eq-or-lt_of_le}
 use Rattle.std.proofs.lemmas.List.{same_from_push}
 use Rattle.pm_io.specs.declared.line_start.LineStart.{LineStart}
 use Rattle.pm_io.specs.declared.line_start.LineStart.TheVariants.{Progress}
@@ -29,9 +30,18 @@ known_next line bytes at known within is =
     is ∙ ap start_of (sym (ap (line_after line) (take_next bytes at within) ∙ line_after-last line (take at bytes) _))
 
 -- a byte that does not end a progress line
-pub unended_next : (line bytes : List ℕ) (at : ℕ) (known : LineStart) → at < length bytes →
+unended_next : (line bytes : List ℕ) (at : ℕ) (known : LineStart) → at < length bytes →
     known ≡ start_of (line_after line (take at bytes)) → ((known ≡ Progress) × (get_or bytes at 0 ≡ 10) → ⊥) →
     EndsProgress line (take (at + 1) bytes) → ⊥
 unended_next line bytes at known within is unended ends =
     let found = ends_with_feed line (take at bytes) _ (subst (EndsProgress line) (take_next bytes at within) ends) in
     unended (is ∙ found.0, found.1)
+
+-- nor is one ended before it
+pub unended_up_to : (line bytes : List ℕ) (at m : ℕ) (known : LineStart) → at < length bytes →
+    known ≡ start_of (line_after line (take at bytes)) → ((known ≡ Progress) × (get_or bytes at 0 ≡ 10) → ⊥) →
+    ((n : ℕ) → n ≤ at → EndsProgress line (take n bytes) → ⊥) → m ≤ at + 1 → EndsProgress line (take m bytes) → ⊥
+unended_up_to line bytes at m known within is unended before most ends = elim (eq-or-lt_of_le most) [
+  | inl last ↦ unended_next line bytes at known within is unended (subst (λ n. EndsProgress line (take n bytes)) last ends)
+  | inr early ↦ before m (omega (arith, early)) ends
+]

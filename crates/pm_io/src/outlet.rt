@@ -65,8 +65,8 @@ impl<W: Write + Drop> Outlet<W> {
         ensures line { IfOk result (λ n. (line : List ℕ) → self.old.line ≡ start_of line
             → self.new.line ≡ start_of (line_after line (take n piece.now))) }
         ensures same_line { OnErr result (self.new.line ≡ self.old.line) }
-        ensures shown { IfOk result (λ n. (line : List ℕ) → self.old.line ≡ start_of line
-            → EndsProgress line (take n piece.now) → self.new.waiting ≡ 0) }
+        ensures shown { IfOk result (λ n. (line : List ℕ) (m : ℕ) → self.old.line ≡ start_of line → m ≤ n
+            → EndsProgress line (take m piece.now) → self.new.waiting ≡ 0) }
     {
         if self.gathered.is_full() {
             self.pass_on()?;

@@ -1,6 +1,7 @@
-use Rattle.std.proofs.Common.{take}
+use Rattle.std.proofs.Common.{◌≡◌, ◌≤◌, take, arith, length-take, take-take, subst, sym}
+use Rattle.pm_io.specs.LineStart.{EndsProgress}
 use Rattle.std.proofs.lemmas.Bool.{iff_false}
-use Rattle.pm_io.proofs.Lines.{known_next, unended_next}
+use Rattle.pm_io.proofs.Lines.{known_next, unended_up_to}
 use Rattle.pm_io.proofs.outlet.Outlet.write.Goals as goal
 
 pub loop-at-preserved : goal.loop-at-preserved
@@ -14,6 +15,14 @@ loop-at-preserved g c =
       same_line = c.loop-at.invariant.same_line;
       line = λ line fits. known_next line front at _ c.loop-at-test.true
           (c.after-line.ensures _ (c.loop-at.invariant.line line fits));
-      unended = λ line fits. unended_next line front at _ c.loop-at-test.true (c.loop-at.invariant.line line fits)
-          (iff_false c.ends_progress.ensures c.if-ends_progress.false);
+      unended = λ line m fits. unended_up_to line front at m _ c.loop-at-test.true (c.loop-at.invariant.line line fits)
+          (iff_false c.ends_progress.ensures c.if-ends_progress.false) (λ n. c.loop-at.invariant.unended line n fits);
     }
+
+-- none of the bytes that were gathered ends a progress line
+pub returns-clause-shown : goal.returns-clause-shown
+returns-clause-shown g c line m fits most ends =
+    let k = c.min.result in
+    let shorter : m ≤ k = omega (arith, most, length-take k c.args.piece.now) in
+    let front : take m (take k c.args.piece.now) ≡ take m c.args.piece.now = take-take m k c.args.piece.now shorter in
+    absurd (c.loop-at.invariant.unended line m fits (omega (arith, most, c.loop-at-test.false)) (subst (EndsProgress line) (sym front) ends))

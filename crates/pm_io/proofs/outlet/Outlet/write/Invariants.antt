@@ -10,5 +10,5 @@ invariant-loop-at g l = record {
   some : 0 < length l.front;
   same_line : l.self.line ≡ l.fn.self.line;
   line : (line : List ℕ) → l.fn.self.line ≡ start_of line → l.line ≡ start_of (line_after line (take l.at l.front));
-  unended : (line : List ℕ) → l.fn.self.line ≡ start_of line → EndsProgress line (take l.at l.front) → ⊥;
+  unended : (line : List ℕ) (m : ℕ) → l.fn.self.line ≡ start_of line → m ≤ l.at → EndsProgress line (take m l.front) → ⊥;
 }
