@@ -103,7 +103,11 @@ fn run<S: Sink>(alloc: Global, prepared: &Prepared, out: &mut S) -> Status
             Err(_) => Status::WriteFault,
         },
         Err(LineBad::Write) => Status::WriteFault,
-        Err(LineBad::Memory) => Status::NoMemory,
+        Err(LineBad::Memory) => {
+            // What was written so far is handed on.
+            let _ = out.finish();
+            Status::NoMemory
+        }
     }
 }
 
