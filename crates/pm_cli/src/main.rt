@@ -9,7 +9,6 @@ pub mod status;
 mod tests;
 pub mod top;
 
-
 use pm_io::{OsFiles, OsSink};
 pub use pm_requests::Role;
 use pm_values::{OpenGate, Txt};

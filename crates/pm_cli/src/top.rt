@@ -105,7 +105,7 @@ fn run<S: Sink>(alloc: Global, prepared: &Prepared, out: &mut S) -> Status
         Err(LineBad::Write) => Status::WriteFault,
         Err(LineBad::Memory) => {
             // What was written so far is handed on.
-            let _ = out.finish();
+            out.finish().ok();
             Status::NoMemory
         }
     }

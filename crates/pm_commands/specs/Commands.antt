@@ -41,7 +41,7 @@ abbrev pub demo_files : ℕ → MemState
 demo_files n =
     let demo = demo_of n in
     with_file (with_file (with_file (with_file no_files
-      (codes "demo.schema") demo.schema) (codes "demo.sql") demo.query) (codes "cust.csv") demo.cust) (codes "ord.csv") demo.ord
+    (codes "demo.schema") demo.schema) (codes "demo.sql") demo.query) (codes "cust.csv") demo.cust) (codes "ord.csv") demo.ord
 
 abbrev pub demo_held : ℕ → Held
 demo_held n = held_of (demo_files n).files
