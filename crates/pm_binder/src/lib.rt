@@ -9,8 +9,6 @@ mod joins;
 mod laws;
 mod selection;
 mod terms;
-#[cfg(test)]
-mod tests;
 mod worked;
 
 pub use binding::bind;

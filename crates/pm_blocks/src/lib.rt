@@ -8,8 +8,6 @@ mod group;
 mod laws;
 mod leads;
 mod sort;
-#[cfg(test)]
-mod tests;
 mod worked;
 
 pub use group::GroupCore;

@@ -10,8 +10,6 @@ mod groups;
 mod joins;
 mod kinds;
 mod nodes;
-#[cfg(test)]
-mod tests;
 mod worked;
 
 pub use building::{BuildBad, build};

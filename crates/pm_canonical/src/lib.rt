@@ -5,8 +5,6 @@
 mod numerals;
 mod printing;
 mod read_back;
-#[cfg(test)]
-mod tests;
 mod words;
 
 pub use printing::print;

@@ -4,8 +4,6 @@
 #![tactic(auto)]
 
 mod demo;
-#[cfg(test)]
-mod tests;
 mod worked;
 
 pub use demo::{Demo, MOST_CUSTOMERS, make};

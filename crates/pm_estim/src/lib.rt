@@ -8,6 +8,3 @@ mod worked;
 
 pub use estimator::estimate;
 pub use pipes::{Pipe, Pipes};
-
-#[cfg(test)]
-mod tests;

@@ -10,5 +10,3 @@ pub use root::root_floor;
 mod capped;
 mod hundredths;
 mod root;
-#[cfg(test)]
-mod tests;

@@ -10,8 +10,6 @@ mod laws;
 mod numbers;
 mod own;
 mod table;
-#[cfg(test)]
-mod tests;
 mod worked;
 
 pub use keys::{Keep, Keys, LentKey, same_values};

@@ -9,8 +9,6 @@ mod laws;
 mod lexing;
 mod quoting;
 mod symbol;
-#[cfg(test)]
-mod tests;
 mod token;
 mod unquote;
 

@@ -17,6 +17,3 @@ pub use plan::put_plan;
 pub use progress::{put_end, put_progress};
 pub use refusal::{Values, put_refusal};
 pub use rows::{put_head, put_row};
-
-#[cfg(test)]
-mod tests;

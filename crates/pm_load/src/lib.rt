@@ -5,7 +5,5 @@
 
 mod loading;
 mod parts;
-#[cfg(test)]
-mod tests;
 
 pub use loading::load;

@@ -5,7 +5,5 @@
 mod laws;
 mod refiner;
 mod refresh;
-#[cfg(test)]
-mod tests;
 
 pub use refiner::Refiner;

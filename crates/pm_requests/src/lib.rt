@@ -11,8 +11,6 @@ mod references;
 mod refusal;
 mod request;
 mod tables;
-#[cfg(test)]
-mod tests;
 mod texts;
 
 pub use laws::{calls_once, requests_are_answered};

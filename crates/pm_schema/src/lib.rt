@@ -22,6 +22,3 @@ pub use fault::SchemaBad;
 pub use laws::answers_once;
 pub use schema::{Schema, read_schema};
 pub use worked::texts_worked;
-
-#[cfg(test)]
-mod tests;

@@ -8,8 +8,6 @@ mod expressions;
 mod numbers;
 mod statement;
 mod terminals;
-#[cfg(test)]
-mod tests;
 mod tree;
 mod worked;
 

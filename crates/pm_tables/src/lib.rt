@@ -14,8 +14,6 @@ mod record_list;
 mod references;
 mod streaming;
 mod table;
-#[cfg(test)]
-mod tests;
 mod typing;
 mod worked;
 

@@ -6,8 +6,6 @@
 mod command;
 mod reading;
 mod settings;
-#[cfg(test)]
-mod tests;
 mod worked;
 
 pub use reading::read_words;

@@ -9,6 +9,3 @@ mod worked;
 
 pub use declared::tables_are_declared;
 pub use evaluation::count_whole;
-
-#[cfg(test)]
-mod tests;

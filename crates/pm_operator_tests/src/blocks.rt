@@ -1,0 +1,254 @@
+//! Sorts and groups with ample memory, at sizes where their lists have grown many times.
+ghost use Rattle.std.specs.Prelude.{◌≡◌, ◌+◌, ◌<◌, ◌≤◌, ◌^◌, true, false, [], ◌∷◌, length, All, IfOk, OnOk};
+ghost use Rattle.pm_values.specs.Row.{AllBelow, cell};
+ghost use Rattle.pm_plan.specs.Grouping.{grouped};
+ghost use Rattle.pm_blocks.specs.Limits.{AreFew, IsShort, IsWithin};
+
+use pm_blocks::{GroupCore, SortCore};
+use pm_plan::{Aggregate, Aggregates, SortKey, SortKeys};
+use pm_values::{Columns, Row, Rows, Txt, Value};
+use std::alloc::{AllocError, Global};
+use std::test::Fail;
+
+/// A row of a number, NULL where there is none, and a text.
+fn row(alloc: Global, number: Option<i64>, text: &str) -> Result<Row, AllocError>
+    ensures { IfOk result (λ row. (length row ≡ 2) × IsShort (cell row 0)) }
+{
+    let mut row = Row::new(alloc);
+    row.push(match number {
+        Some(n) => Value::Int(i128::from(n)),
+        None => Value::Null,
+    })?;
+    row.push(Value::Text(Txt::new(alloc, text)?))?;
+    Ok(row)
+}
+
+/// Rows of numbers and texts.
+fn rows(alloc: Global, list: &[(Option<i64>, &str)]) -> Result<Rows, AllocError>
+    ensures count { IfOk result (λ rows. length rows ≡ length list.now) }
+    ensures pairs { IfOk result (All (λ row. (length row ≡ 2) × IsShort (cell row 0))) }
+{
+    let mut rows = Rows::new(alloc);
+    for (number, text) in list {
+        rows.push(row(alloc, *number, text)?)?;
+    }
+    Ok(rows)
+}
+
+/// The number of row i at size: each fifth one is NULL, and the others are 0 to 9.
+fn number_of(i: u32) -> Option<i64> {
+    if i % 5 == 0 {
+        None
+    } else {
+        Some(i64::from(i / 100 % 10))
+    }
+}
+
+/// A thousand rows, of which the texts are those of 37 numbers.
+fn many_rows(alloc: Global) -> Result<Rows, AllocError>
+    ensures count { IfOk result (λ rows. length rows ≡ 1000) }
+    ensures pairs { IfOk result (All (λ row. (length row ≡ 2) × IsShort (cell row 0))) }
+{
+    let mut rows = Rows::new(alloc);
+    for i in 0..1000 {
+        let text = format!(in alloc; "{:02}", i % 37)?;
+        rows.push(row(alloc, number_of(i), text.as_str())?)?;
+    }
+    Ok(rows)
+}
+
+/// Keys of the first or the second column.
+fn keys(alloc: Global, list: &[(bool, bool)]) -> Result<SortKeys, AllocError>
+    ensures { IfOk result (All (λ key. key.column < 2)) }
+{
+    let mut keys = SortKeys::new(alloc);
+    for (second, descending) in list {
+        keys.push(SortKey {
+            column: u32::from(*second),
+            descending: *descending,
+        })?;
+    }
+    Ok(keys)
+}
+
+/// The numbers of rows in the order of their sort.
+fn sorted(alloc: Global, keys: &SortKeys, rows: &Rows) -> Result<Vec<u64>, AllocError>
+    requires columns { All (λ key. key.column < 2) keys.now }
+    requires pairs { All (λ row. (length row ≡ 2) × IsShort (cell row 0)) rows.now }
+{
+    let mut core = SortCore::new(alloc, keys)?;
+    for row in rows.as_slice() {
+        core.take(row)?;
+    }
+    core.close()?;
+    let mut numbers = Vec::new(alloc);
+    while let Some(number) = core.hand() {
+        numbers.push(number)?;
+    }
+    Ok(numbers)
+}
+
+#[test]
+fn sorts_small_lists(rt: HostRuntime) -> Result<(), Fail> {
+    let alloc = rt.alloc();
+    let list = [
+        (Some(7), "b"),
+        (None, "a"),
+        (Some(3), "a"),
+        (Some(7), "a"),
+        (None, ""),
+    ];
+    let rows = rows(alloc, &list)?;
+    let cases: [(&[(bool, bool)], [u64; 5]); 6] = [
+        (&[], [0, 1, 2, 3, 4]),
+        (&[(false, false)], [1, 4, 2, 0, 3]),
+        (&[(false, true)], [0, 3, 2, 1, 4]),
+        (&[(true, false)], [4, 1, 2, 3, 0]),
+        (&[(false, true), (true, false)], [3, 0, 2, 4, 1]),
+        (&[(true, true), (false, false)], [0, 1, 2, 3, 4]),
+    ];
+    for (list, expected) in cases {
+        let numbers = sorted(alloc, &keys(alloc, list)?, &rows)?;
+        assert_eq!(rt; numbers.as_slice(), expected.as_slice());
+    }
+    Ok(())
+}
+
+/// By text, and then by number from the greatest one on.
+#[test]
+fn sorts_many_rows(rt: HostRuntime) -> Result<(), Fail> {
+    let alloc = rt.alloc();
+    let keys = keys(alloc, &[(true, false), (false, true)])?;
+    let numbers = sorted(alloc, &keys, &many_rows(alloc)?)?;
+    let mut expected = Vec::new(alloc);
+    for text in 0..37u32 {
+        for less in 0..11u32 {
+            let wanted = if less < 10 {
+                Some(i64::from(9 - less))
+            } else {
+                None
+            };
+            for i in 0..1000u32 {
+                if i % 37 == text && number_of(i) == wanted {
+                    expected.push(u64::from(i))?;
+                }
+            }
+        }
+    }
+    assert_eq!(rt; numbers.as_slice(), expected.as_slice());
+    Ok(())
+}
+
+fn take_all(core: &mut GroupCore, rows: &Rows) -> Result<(), AllocError>
+    requires open { core.old.closed ≡ false }
+    requires none { core.old.groups ≡ grouped core.old.keys core.old.items [] }
+    requires keys { AllBelow core.old.keys 2 }
+    requires items { All (IsWithin 2) core.old.items }
+    requires pairs { All (λ row. (length row ≡ 2) × IsShort (cell row 0)) rows.now }
+    requires few { AreFew core.old.items rows.now }
+    ensures { OnOk result (core.new ≡ record core.old { groups = grouped core.old.keys core.old.items rows.now }) }
+{
+    for row in rows.as_slice() {
+        core.take(row)?;
+    }
+    Ok(())
+}
+
+/// The groups of rows by their texts, or together: how many rows and numbers they are, the sum, the least and the greatest
+/// number, and the greatest text.
+fn groups(alloc: Global, by_text: bool, rows: &Rows) -> Result<String, AllocError>
+    requires pairs { All (λ row. (length row ≡ 2) × IsShort (cell row 0)) rows.now }
+    requires few { length rows.now ≤ 1000 }
+{
+    let keys = Columns::from_slice(alloc, if by_text { &[1] } else { &[] })?;
+    let items = [
+        Aggregate::CountAll,
+        Aggregate::Count(0),
+        Aggregate::Sum(0),
+        Aggregate::Min(0),
+        Aggregate::Max(0),
+        Aggregate::Max(1),
+    ];
+    let items = Aggregates::from_slice(alloc, &items)?;
+    let mut core = GroupCore::new(alloc, &keys, &items)?;
+    take_all(&mut core, rows)?;
+    core.close()?;
+    written(alloc, &mut core, keys.len() as u32 + 6)
+}
+
+/// The groups as they are handed out, each with a line behind it.
+fn written(alloc: Global, core: &mut GroupCore, width: u32) -> Result<String, AllocError>
+    requires closed { core.old.closed ≡ true }
+    requires columns { width ≡ length core.old.keys + length core.old.items }
+{
+    let mut text = String::new(alloc);
+    while let Some(group) = core.hand() {
+        for column in 0..width {
+            let piece = match core.cell(group, column) {
+                Value::Null => format!(in alloc; "null ")?,
+                Value::Int(n) => format!(in alloc; "{n} ")?,
+                Value::Text(t) => format!(in alloc; "'{}' ", t.as_str())?,
+            };
+            text.push_str(piece.as_str())?;
+        }
+        text.push_str("/ ")?;
+    }
+    Ok(text)
+}
+
+#[test]
+fn groups_small_lists(rt: HostRuntime) -> Result<(), Fail> {
+    let alloc = rt.alloc();
+    let big = i64::MAX;
+    let list = [
+        (Some(7), "b"),
+        (None, "a"),
+        (Some(3), "a"),
+        (Some(big), "b"),
+        (Some(big), "b"),
+        (None, ""),
+    ];
+    let rows = rows(alloc, &list)?;
+    let none = Rows::new(alloc);
+    assert_eq!(rt;
+        groups(alloc, true, &rows)?.as_str(),
+        "'b' 3 3 18446744073709551621 7 9223372036854775807 'b' / 'a' 2 1 3 3 3 'a' / '' 1 0 null null null '' / "
+    );
+    assert_eq!(rt;
+        groups(alloc, false, &rows)?.as_str(),
+        "6 4 18446744073709551624 3 9223372036854775807 'b' / "
+    );
+    assert_eq!(rt; groups(alloc, true, &none)?.as_str(), "");
+    assert_eq!(rt;
+        groups(alloc, false, &none)?.as_str(),
+        "0 0 null null null null / "
+    );
+    Ok(())
+}
+
+#[test]
+fn groups_many_rows(rt: HostRuntime) -> Result<(), Fail> {
+    let alloc = rt.alloc();
+    let rows = many_rows(alloc)?;
+    let mut expected = String::new(alloc);
+    for text in 0..37u32 {
+        let (mut all, mut count, mut sum, mut least, mut most) = (0u32, 0u32, 0i64, 9i64, 0i64);
+        for i in 0..1000u32 {
+            if i % 37 == text {
+                all = all.saturating_add(1);
+                if let Some(n) = number_of(i) {
+                    count = count.saturating_add(1);
+                    sum = sum.saturating_add(n);
+                    least = least.min(n);
+                    most = most.max(n);
+                }
+            }
+        }
+        let line = format!(in alloc;
+            "'{text:02}' {all} {count} {sum} {least} {most} '{text:02}' / "
+        )?;
+        expected.push_str(line.as_str())?;
+    }
+    assert_eq!(rt; groups(alloc, true, &rows)?.as_str(), expected.as_str());
+    Ok(())
+}

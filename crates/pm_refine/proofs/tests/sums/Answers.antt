@@ -1,5 +1,0 @@
-use Rattle.pm_refine.proofs.Example.{are_gauges}
-use Rattle.pm_refine.proofs.tests.sums.Goals as goal
-
-pub new-requires : goal.new-requires
-new-requires c = rw (c.gauge.ensures, c.gauge-2.ensures, c.gauge-3.ensures) (are_gauges c.in_ok-plan.plan c.in_ok-plan.ensures 0)

@@ -1,7 +1,0 @@
-use Rattle.std.proofs.Common.{◌≡◌, length}
-use Rattle.std.specs.Prelude.{All}
-use Rattle.pm_values.specs.Table.{HasValidKind}
-use Rattle.pm_tables.proofs.tests.wide_columns.Given as goal
-
-abbrev pub invariant-loop-number : goal.invariant-loop-number
-invariant-loop-number l = (length l.columns ≡ l.number-counter) × All HasValidKind l.columns
