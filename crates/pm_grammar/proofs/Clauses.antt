@@ -2,7 +2,8 @@
 use Rattle.std.proofs.Common.{◌≡◌, ◌≤◌, ◌<◌, ◌⊎◌, ℕ, zero, suc, Bool, true, false, List, [], ◌∷◌, ◌++◌, drop, length, Option, Some, None, Ok, Err, refl, sym, inl, inr, arith, nat_le, ◌&&◌, if◌then◌else◌}
 use Rattle.pm_lexer.specs.declared.token.Token.{Token}
 use Rattle.pm_grammar.specs.Language.{Gate, Is, IsMore, IsClause}
-use Rattle.pm_grammar.specs.Reading.{too_many, Read, ◌>>=◌, place_of, sees, limited_at, more_while, clause_at}
+use Rattle.pm_grammar.specs.Reading.{too_many, Read, ◌>>=◌, place_of, sees, limited_at, clause_at}
+use Rattle.pm_grammar.specs.Steps.{more_while}
 use Rattle.pm_grammar.proofs.Phrases.{Phrase, Next, Avoids, Able, Began, Law, Reader, Nothing, longer}
 use Rattle.pm_grammar.proofs.Readers.{Then, Or, Same, same_law, first_law, second_law, same_reader, then_law, then_reader, then_began, first_began, pure_reader, map_reader, not_seen}
 use Rattle.pm_grammar.proofs.Lists.{Further, More, Entry, further_able, entry_began, ThenSome, some_law}

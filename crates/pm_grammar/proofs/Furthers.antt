@@ -3,7 +3,8 @@ use Rattle.std.proofs.Common.{◌≡◌, ◌≤◌, ◌<◌, ℕ, zero, suc, Boo
 use Rattle.std.proofs.lemmas.Bool.Decides.{nat_tests}
 use Rattle.pm_lexer.specs.declared.token.Token.{Token}
 use Rattle.pm_grammar.specs.Language.{Gate, Is, IsMore, IsList}
-use Rattle.pm_grammar.specs.Reading.{Stop, expected, too_many, Read, ◌>>=◌, place_of, sees, token_at, entry_at, more_at, list_at}
+use Rattle.pm_grammar.specs.Reading.{Stop, expected, too_many, Read, ◌>>=◌, place_of, sees, token_at, entry_at}
+use Rattle.pm_grammar.specs.Steps.{more_at, list_at}
 use Rattle.pm_grammar.proofs.Phrases.{Phrase, Next, Avoids, Heads, Able, Began, GoesOn, Fault, Taken, Law, Reader, Nothing, NotOther}
 use Rattle.pm_grammar.proofs.Readers.{Then, Or, same_law, first_law, second_law, first_began, then_law, then_began, one_token, not_seen, pure_reader, first_fault}
 use Rattle.pm_grammar.proofs.Lists.{Some, ThenSome, some_law, Peek, Further, More, Entry, None, further_same, further_able, entry_same, entry_able, more_clear, past_law}

@@ -14,3 +14,4 @@ pub mod Symbols
 pub mod Clauses
 pub mod Productions
 pub mod Yields
+pub mod Decided

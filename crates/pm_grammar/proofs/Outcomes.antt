@@ -1,11 +1,10 @@
 -- What stops one reading stops another.
-use Rattle.std.proofs.Common.{◌≡◌, ◌+◌, ℕ, Bool, true, List, Result, Err, refl}
+use Rattle.std.proofs.Common.{◌≡◌, List, Result, Err, refl}
 use Rattle.pm_lexer.specs.declared.token.Token.{Token}
-use Rattle.pm_grammar.specs.Reading.{Stop, expected, too_deep, too_many, Read, ◌>>=◌, sees, more_at}
+use Rattle.pm_grammar.specs.Reading.{Stop, expected, too_deep, too_many, Read, ◌>>=◌}
 use Rattle.pm_grammar.specs.Outcome.{Fails}
 use Rattle.pm_grammar.specs.declared.fault.SynBad.{SynBad}
 use Rattle.pm_grammar.specs.declared.fault.SynBad.TheVariants as bad
-use Rattle.pm_grammar.proofs.Turns.{more_goes}
 
 pub fails_through : {A B : Type 0} (e : SynBad) (r : Result A Stop) (s : Result B Stop) → ((stop : Stop) → r ≡ Err stop → s ≡ Err stop) → Fails e r → Fails e s
 fails_through bad.Memory r s h f = tt
@@ -15,8 +14,3 @@ fails_through (bad.TooMany at) r s h f = h (too_many at) f
 
 pub bind_fails : {A B : Type 0} (r : Read A) (f : A × List Token → Read B) (e : SynBad) → Fails e r → Fails e (r >>= f)
 bind_fails r f e h = fails_through e r (r >>= f) (λ stop is. rw is refl) h
-
--- the separator failed
-pub sep_fails : {A S : Type 0} (starts : Token → Bool) (sep : List Token → Read S) (peek : List Token → Read Token) (p : S → List Token → Read A) (limit n m : ℕ) (before : List A) (ts : List Token) (e : SynBad)
-    → n ≡ m + 1 → sees starts ts ≡ true → Fails e (sep ts) → Fails e (more_at starts sep peek p limit n before ts)
-sep_fails starts sep peek p limit n m before ts e is f h = fails_through e (sep ts) _ (λ stop fails. rw (more_goes starts sep peek p limit n m before ts is f, fails) refl) h

@@ -6,7 +6,8 @@ use Rattle.pm_lexer.specs.declared.symbol.Symbol.{Symbol}
 use Rattle.pm_lexer.specs.declared.symbol.Symbol.TheVariants as symbol
 use Rattle.pm_lexer.specs.Symbol.{same_symbol, is}
 use Rattle.pm_grammar.specs.Language.{Gate, Is, IsList, IsOptional}
-use Rattle.pm_grammar.specs.Reading.{Read, ◌>>=◌, sees, token_at, optional_at, list_at}
+use Rattle.pm_grammar.specs.Reading.{Read, ◌>>=◌, sees, token_at, optional_at}
+use Rattle.pm_grammar.specs.Steps.{list_at}
 use Rattle.pm_grammar.proofs.Phrases.{Phrase, Next, Avoids, Reader, NotOther, Began}
 use Rattle.pm_grammar.proofs.Readers.{Then, Or, Same, pure_reader, then_reader, map_reader, token_reader, same_reader, wider_reader}
 use Rattle.pm_grammar.proofs.Lists.{Peek}

@@ -1,7 +1,8 @@
 -- The reader of entries with nothing between them.
 use Rattle.std.proofs.Common.{◌≡◌, ◌≤◌, ℕ, zero, suc, Bool, true, false, List, [], ◌∷◌, ◌++◌, length, Ok, refl, arith, nat_le, if◌then◌else◌}
 use Rattle.pm_lexer.specs.declared.token.Token.{Token}
-use Rattle.pm_grammar.specs.Reading.{too_many, Read, ◌>>=◌, place_of, sees, entry_at, more_at}
+use Rattle.pm_grammar.specs.Reading.{too_many, Read, ◌>>=◌, place_of, sees, entry_at}
+use Rattle.pm_grammar.specs.Steps.{more_at}
 use Rattle.pm_grammar.proofs.Phrases.{Phrase, Law, Reader, Nothing}
 use Rattle.pm_grammar.proofs.Readers.{same_law, first_law, second_law, pure_reader}
 use Rattle.pm_grammar.proofs.Lists.{Some, ThenSome, some_law, Peek, Further, More, Entry, None, further_same, further_able, entry_same, past_law}

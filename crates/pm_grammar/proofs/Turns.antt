@@ -1,7 +1,8 @@
 -- One turn of the reading of a list.
-use Rattle.std.proofs.Common.{◌≡◌, ◌+◌, ℕ, zero, suc, Bool, true, false, List, [], ◌∷◌, ◌++◌, drop, length, Ok, Err, refl, arith, nat_le, ◌&&◌, if◌then◌else◌}
+use Rattle.std.proofs.Common.{◌≡◌, ◌+◌, ℕ, zero, suc, Bool, true, false, List, [], ◌∷◌, ◌++◌, drop, length, Ok, Err, refl, arith, nat_le}
 use Rattle.pm_lexer.specs.declared.token.Token.{Token}
-use Rattle.pm_grammar.specs.Reading.{Stop, Read, ◌>>=◌, sees, token_at, entry_at, more_at, limited_at, more_while}
+use Rattle.pm_grammar.specs.Reading.{Stop, Read, ◌>>=◌, sees, token_at, entry_at}
+use Rattle.pm_grammar.specs.Steps.{more_at, more_while}
 
 -- no turn is left
 pub more_ends : {A S : Type 0} (starts : Token → Bool) (sep : List Token → Read S) (peek : List Token → Read Token) (p : S → List Token → Read A) (limit n : ℕ) (before : List A) (ts : List Token)
@@ -34,7 +35,7 @@ pub more_fails : {A S : Type 0} (starts : Token → Bool) (sep : List Token → 
 more_fails starts sep peek p limit n m before ts s r stop e f g h = rw (more_goes starts sep peek p limit n m before ts e f, g, h) refl
 
 -- a separator that is one token
-seen : (test : Token → Bool) (ts : List Token) → sees test ts ≡ true → (t : Token) × (token_at test ts ≡ Ok (t, drop 1 ts))
+pub seen : (test : Token → Bool) (ts : List Token) → sees test ts ≡ true → (t : Token) × (token_at test ts ≡ Ok (t, drop 1 ts))
 seen test [] e = absurd (let bad : false ≡ true = e in cc)
 seen test (t ∷ ts) e = (t, rw e refl)
 
@@ -46,35 +47,8 @@ pub token_fails : {A : Type 0} (test : Token → Bool) (peek : List Token → Re
     → n ≡ m + 1 → sees test ts ≡ true → entry_at (nat_le limit (length before)) peek p (drop 1 ts) ≡ Err stop → more_at test (token_at test) peek (λ _. p) limit n before ts ≡ Err stop
 token_fails test peek p limit n m before ts stop e g h = let (t, is) = seen test ts g in more_fails test (token_at test) peek (λ _. p) limit n m before ts t (drop 1 ts) stop e g is h
 
--- the same of entries that are read while one begins
-pub while_ends : {A : Type 0} (sep starts : Token → Bool) (p : List Token → Read A) (limit n : ℕ) (before : List A) (ts : List Token) → n ≡ 0 → more_while sep starts p limit n before ts ≡ Ok (before, ts)
-unfolding more_while
-while_ends sep starts p limit n before ts e = rw e refl
-
+-- a list of entries that are read while one begins, where no separator comes next
 pub while_stops : {A : Type 0} (sep starts : Token → Bool) (p : List Token → Read A) (limit n : ℕ) (before : List A) (ts : List Token) → sees sep ts ≡ false → more_while sep starts p limit n before ts ≡ Ok (before, ts)
 unfolding more_while
 while_stops sep starts p limit zero before ts e = refl
 while_stops sep starts p limit (suc n) before ts e = rw e refl
-
-pub while_leaves : {A : Type 0} (sep starts : Token → Bool) (p : List Token → Read A) (limit n : ℕ) (before : List A) (ts : List Token) → sees starts (drop 1 ts) ≡ false → more_while sep starts p limit n before ts ≡ Ok (before, ts)
-unfolding more_while
-while_leaves sep starts p limit zero before ts e = refl
-while_leaves sep starts p limit (suc n) before ts e = rw e (of (sees sep ts) _ _)
-  where
-    of : {X : Type 0} (b : Bool) (x y : X) → (if b && false then x else y) ≡ y
-    of true x y = refl
-    of false x y = refl
-
-pub while_goes : {A : Type 0} (sep starts : Token → Bool) (p : List Token → Read A) (limit n m : ℕ) (before : List A) (ts : List Token) → n ≡ m + 1 → sees sep ts ≡ true → sees starts (drop 1 ts) ≡ true
-    → more_while sep starts p limit n before ts ≡ (limited_at (nat_le limit (length before)) p (drop 1 ts) >>= λ a. more_while sep starts p limit m (before ++ a.0 ∷ []) a.1)
-unfolding more_while
-while_goes sep starts p limit zero m before ts e s f = absurd (omega arith)
-while_goes sep starts p limit (suc n) m before ts e s f = let q : m ≡ n = omega arith in rw (s, f, q) refl
-
-pub while_took : {A : Type 0} (sep starts : Token → Bool) (p : List Token → Read A) (limit n m : ℕ) (before : List A) (ts : List Token) (a : A) (rest : List Token) → n ≡ m + 1 → sees sep ts ≡ true → sees starts (drop 1 ts) ≡ true
-    → limited_at (nat_le limit (length before)) p (drop 1 ts) ≡ Ok (a, rest) → more_while sep starts p limit n before ts ≡ more_while sep starts p limit m (before ++ a ∷ []) rest
-while_took sep starts p limit n m before ts a rest e s f h = rw (while_goes sep starts p limit n m before ts e s f, h) refl
-
-pub while_fails : {A : Type 0} (sep starts : Token → Bool) (p : List Token → Read A) (limit n m : ℕ) (before : List A) (ts : List Token) (stop : Stop) → n ≡ m + 1 → sees sep ts ≡ true → sees starts (drop 1 ts) ≡ true
-    → limited_at (nat_le limit (length before)) p (drop 1 ts) ≡ Err stop → more_while sep starts p limit n before ts ≡ Err stop
-while_fails sep starts p limit n m before ts stop e s f h = rw (while_goes sep starts p limit n m before ts e s f, h) refl

@@ -1,4 +1,6 @@
 pub mod Language
 pub mod Reading
+pub mod Lists
+pub mod Steps
 pub mod Outcome
 pub mod Answers

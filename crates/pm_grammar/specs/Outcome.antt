@@ -14,3 +14,15 @@ Fails (bad.TooMany p) read = read ≡ Err (too_many p)
 abbrev pub Gives : {X A : Type 0} → (X → A) → Result X SynBad → Result A Stop → Type 0
 Gives view (Ok x) read = read ≡ Ok (view x)
 Gives view (Err e) read = Fails e read
+
+-- what is read is refused like this, unless memory ran out
+abbrev pub IsRefused : {A : Type 0} → SynBad → (Result A Stop → Type 0) → Type 0
+IsRefused bad.Memory reads = Unit {0}
+IsRefused (bad.Expected p) reads = reads (Err (expected p))
+IsRefused (bad.TooDeep p) reads = reads (Err (too_deep p))
+IsRefused (bad.TooMany p) reads = reads (Err (too_many p))
+
+-- what a function answered, seen like this, is what is read, unless memory ran out
+abbrev pub IsRead : {X A : Type 0} → (X → A) → Result X SynBad → (Result A Stop → Type 0) → Type 0
+IsRead view (Ok x) reads = reads (Ok (view x))
+IsRead view (Err e) reads = IsRefused e reads

@@ -1,5 +1,5 @@
 -- What a reader answers, token by token.
-use Rattle.std.specs.Prelude.{ℕ, zero, suc, Bool, false, ◌&&◌, if◌then◌else◌, List, [], ◌∷◌, ◌++◌, Option, Some, None, Result, Ok, Err, length, drop, nat_le}
+use Rattle.std.specs.Prelude.{ℕ, Bool, false, ◌&&◌, if◌then◌else◌, List, [], ◌∷◌, Option, Some, None, Result, Ok, Err, drop}
 use Rattle.pm_lexer.specs.declared.token.Token.{Token}
 use Rattle.pm_lexer.specs.Pieces.{content_of}
 use Rattle.pm_grammar.specs.declared.names.PlacedName.{PlacedName}
@@ -41,17 +41,6 @@ entry_at past peek p ts = if past then (peek ts >>= λ _. Err (too_many (place_o
 abbrev pub limited_at : {A : Type 0} → Bool → (List Token → Read A) → List Token → Read A
 limited_at past p ts = if past then Err (too_many (place_of ts)) else p ts
 
--- further entries after separators, in at most so many turns
-unfoldable pub more_at : {A S : Type 0} → (Token → Bool) → (List Token → Read S) → (List Token → Read Token) → (S → List Token → Read A) → ℕ → ℕ → List A → List Token → Read (List A)
-more_at starts sep peek p limit zero before ts = Ok (before, ts)
-more_at starts sep peek p limit (suc n) before ts =
-    if sees starts ts
-    then (sep ts >>= λ s. (entry_at (nat_le limit (length before)) peek (p s.0) s.1 >>= λ a. more_at starts sep peek p limit n (before ++ a.0 ∷ []) a.1))
-    else Ok (before, ts)
-
-unfoldable pub list_at : {A : Type 0} → (Token → Bool) → (List Token → Read Token) → (List Token → Read A) → ℕ → List Token → Read (List A)
-list_at sep peek p limit ts = p ts >>= λ first. more_at sep (token_at sep) peek (λ _. p) limit (length first.1) (first.0 ∷ []) first.1
-
 -- nothing may follow
 abbrev pub whole : {A : Type 0} → Read A → Result A Stop
 whole (Ok (a, [])) = Ok a
@@ -69,14 +58,6 @@ named token = record { text = content_of token; at = token.at }
 
 unfoldable pub name_at : (Token → Bool) → List Token → Read PlacedName
 name_at test ts = token_at test ts >>= λ name. Ok (named name.0, name.1)
-
--- Further entries, while one begins after the separator: a list that is followed by clauses with the same separator.
-unfoldable pub more_while : {A : Type 0} → (Token → Bool) → (Token → Bool) → (List Token → Read A) → ℕ → ℕ → List A → List Token → Read (List A)
-more_while sep starts p limit zero before ts = Ok (before, ts)
-more_while sep starts p limit (suc n) before ts =
-    if sees sep ts && sees starts (drop 1 ts)
-    then (limited_at (nat_le limit (length before)) p (drop 1 ts) >>= λ a. more_while sep starts p limit n (before ++ a.0 ∷ []) a.1)
-    else Ok (before, ts)
 
 -- a clause after a separator, where its first word stands there
 unfoldable pub clause_at : {A : Type 0} → (Token → Bool) → (Token → Bool) → (List Token → Read A) → List Token → Read (Option A)

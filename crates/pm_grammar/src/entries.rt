@@ -1,7 +1,8 @@
 //! Lists of entries with separators between them.
-ghost use Rattle.std.specs.Prelude.{◌≡◌, length};
-ghost use Rattle.pm_grammar.specs.Reading.{token_at, entry_at, limited_at, more_at, more_while, list_at, place_of};
-ghost use Rattle.pm_grammar.specs.Outcome.{Gives};
+ghost use Rattle.std.specs.Prelude.{◌≡◌};
+ghost use Rattle.pm_grammar.specs.Reading.{entry_at, limited_at, place_of};
+ghost use Rattle.pm_grammar.specs.Lists.{ReadsFurther, ReadsSeries, ReadsWhile, ReadsList};
+ghost use Rattle.pm_grammar.specs.Outcome.{Gives, IsRead};
 
 use crate::fault::SynBad;
 use crate::terminal::{Terminal, place, sees, strip_terminal};
@@ -11,7 +12,7 @@ use std::alloc::Global;
 
 /// A kind of entries of a list.
 pub trait Entry {
-    ghost use Rattle.std.specs.Prelude.{List};
+    ghost use Rattle.std.specs.Prelude.{◌≡◌, ◌≤◌, List, Ok, length};
     ghost use Rattle.pm_lexer.specs.declared.token.Token.{Token};
     ghost use Rattle.pm_grammar.specs.Reading.{Read};
     ghost use Rattle.pm_grammar.specs.Outcome.{Gives};
@@ -32,6 +33,9 @@ pub trait Entry {
     /// Reads the first token of an entry.
     fn peek(tokens: &[Token]) -> Result<(&Token, &[Token]), SynBad>
         ensures { Gives (λ x. (x.0.now, x.1.now)) result (peeks tokens.now) };
+
+    /// What follows an entry is a part of what was read.
+    ghost shortens: { (tokens rest : List Token) (value : Self.Value) → reads tokens ≡ Ok (value, rest) → length rest ≤ length tokens };
 }
 
 // An entry, or why there is none past the limit.
@@ -57,7 +61,7 @@ pub fn further<E: Entry, T: Terminal>(
     mut list: Items<E::Value>,
     mut rest: &[Token],
 ) -> Result<(Items<E::Value>, &[Token]), SynBad>
-    ensures { Gives (λ x. (x.0, x.1.now)) result (more_at (T.accepts separator) (token_at (T.accepts separator)) E.peeks (λ _. E.reads) limit (length rest.entry.now) list rest.entry.now) }
+    ensures { IsRead (λ x. (x.0, x.1.now)) result (ReadsFurther (T.accepts separator) E.peeks E.reads limit list rest.entry.now) }
 {
     'entries: for _ in 0..rest.len() {
         let Some(next) = strip_terminal(separator, rest) else {
@@ -71,14 +75,13 @@ pub fn further<E: Entry, T: Terminal>(
 }
 
 /// One or more entries with separators between them, at most so many.
-#[tactic(auto, unfolding(crate::specs::Reading::list_at))]
 pub fn list<E: Entry, T: Terminal>(
     alloc: Global,
     separator: T,
     limit: usize,
     tokens: &[Token],
 ) -> Result<(Items<E::Value>, &[Token]), SynBad>
-    ensures { Gives (λ x. (x.0, x.1.now)) result (list_at (T.accepts separator) E.peeks E.reads limit tokens.now) }
+    ensures { IsRead (λ x. (x.0, x.1.now)) result (ReadsList (T.accepts separator) E.peeks E.reads limit tokens.now) }
 {
     let mut list = Items::new(alloc);
     let (first, rest) = E::read(alloc, tokens)?;
@@ -110,7 +113,7 @@ pub fn further_while<E: Entry, T: Terminal, U: Terminal>(
     mut list: Items<E::Value>,
     mut rest: &[Token],
 ) -> Result<(Items<E::Value>, &[Token]), SynBad>
-    ensures { Gives (λ x. (x.0, x.1.now)) result (more_while (T.accepts separator) (U.accepts first) E.reads limit (length rest.entry.now) list rest.entry.now) }
+    ensures { IsRead (λ x. (x.0, x.1.now)) result (ReadsWhile (T.accepts separator) (U.accepts first) E.reads limit list rest.entry.now) }
 {
     'entries: for _ in 0..rest.len() {
         let Some(next) = strip_terminal(separator, rest) else {
@@ -128,7 +131,7 @@ pub fn further_while<E: Entry, T: Terminal, U: Terminal>(
 
 /// A kind of lists whose entries stand after separators of their own.
 pub trait Series {
-    ghost use Rattle.std.specs.Prelude.{◌≡◌, Bool, List};
+    ghost use Rattle.std.specs.Prelude.{◌≡◌, ◌<◌, Bool, List, Ok, length};
     ghost use Rattle.pm_lexer.specs.declared.token.Token.{Token};
     ghost use Rattle.pm_grammar.specs.Reading.{Read, sees};
     ghost use Rattle.pm_grammar.specs.Outcome.{Gives};
@@ -170,6 +173,9 @@ pub trait Series {
         tokens: &[Token],
     ) -> Result<(Self::Value, &[Token]), SynBad>
         ensures { Gives (λ x. (x.0, x.1.now)) result (reads separator tokens.now) };
+
+    /// A separator and its entry are a token at least.
+    ghost shortens: { (tokens next rest : List Token) (separator : Self.Separator) (value : Self.Value) → separates tokens ≡ Ok (separator, next) → reads separator next ≡ Ok (value, rest) → length rest < length tokens };
 }
 
 // An entry of a series, or why there is none past the limit.
@@ -195,7 +201,7 @@ pub fn further_series<E: Series>(
     mut list: Items<E::Value>,
     mut rest: &[Token],
 ) -> Result<(Items<E::Value>, &[Token]), SynBad>
-    ensures { Gives (λ x. (x.0, x.1.now)) result (more_at E.starts E.separates E.peeks E.reads limit (length rest.entry.now) list rest.entry.now) }
+    ensures { IsRead (λ x. (x.0, x.1.now)) result (ReadsSeries E.starts E.separates E.peeks E.reads limit list rest.entry.now) }
 {
     'entries: for _ in 0..rest.len() {
         if !E::starts(rest) {

@@ -5,7 +5,8 @@ use Rattle.pm_lexer.specs.declared.symbol.Symbol.TheVariants as symbol
 use Rattle.pm_lexer.specs.Symbol.{same_symbol, is}
 use Rattle.pm_grammar.specs.declared.names.PlacedName.{PlacedName}
 use Rattle.pm_grammar.specs.Language.{Is, IsList}
-use Rattle.pm_grammar.specs.Reading.{Read, ◌>>=◌, token_at, name_at, named, list_at}
+use Rattle.pm_grammar.specs.Reading.{Read, ◌>>=◌, token_at, name_at, named}
+use Rattle.pm_grammar.specs.Steps.{list_at}
 use Rattle.pm_grammar.proofs.Phrases.{Phrase, Reader, Nothing}
 use Rattle.pm_grammar.proofs.Readers.{Then, Or, Same, pure_reader, token_reader, then_reader, then_law, then_began, map_reader, same_reader}
 use Rattle.pm_grammar.proofs.Lists.{Further, further_able}
@@ -92,7 +93,7 @@ column_after_reader name d =
     (λ kind. map_reader NotNext (λ _ _. IsNullable) (λ nullable. record { name = named name; kind = kind; nullable = nullable }) d nullable_at (nullable_reader d))
     (λ a d' g next avoids t ts s h. s)
 
-column_reader : (names : Token → Bool) (t₀ : Token) → names t₀ ≡ true → (d : ℕ) → Reader NotNext (λ _ _. IsColumn names) d (column_at names)
+pub column_reader : (names : Token → Bool) (t₀ : Token) → names t₀ ≡ true → (d : ℕ) → Reader NotNext (λ _ _. IsColumn names) d (column_at names)
 unfolding column_at
 column_reader names t₀ e₀ d = token_reader NotNext names t₀ e₀ _ d _ (λ name. column_after_reader name d)
 
@@ -129,7 +130,7 @@ after_word_reader S t d =
     (λ target. map_reader S (λ _ g. IsNames g) (λ keys. record { columns = columns; target = target; keys = keys }) d names_at (names_reader S d)) (λ a d' g next avoids t ts s h. s)))
     (λ a d' g next avoids t ts s h. s)
 
-reference_reader : (S : Token → Type 0) (word : Token → Bool) (t₀ : Token) → word t₀ ≡ true → (d : ℕ) → Reader S (Reference word) d (reference_at word)
+pub reference_reader : (S : Token → Type 0) (word : Token → Bool) (t₀ : Token) → word t₀ ≡ true → (d : ℕ) → Reader S (Reference word) d (reference_at word)
 unfolding reference_at
 reference_reader S word t₀ e₀ d = token_reader S word t₀ e₀ AfterWord d _ (λ t. after_word_reader S t d)
 
@@ -140,7 +141,7 @@ BodyNext t = CommaNext t ⊎ NotNext t
 abbrev MoreReferences : ReferenceText → Phrase (List ReferenceText)
 MoreReferences first = Further MOST_REFERENCES (λ _ _. Is (is symbol.Comma)) (λ _. Reference is_references) (first ∷ [])
 
-some_references_reader : (after_list : Bool) (d : ℕ) → Reader BodyNext (λ _ g. IsSomeReferences (references_word after_list) g) d (λ ts. reference_at (references_word after_list) ts >>= λ first. more_references_at first.0 first.1)
+some_references_reader : (after_list : Bool) (d : ℕ) → Reader BodyNext (λ _ g. IsSomeReferences (references_word after_list) g) d (λ ts. reference_at (references_word after_list) ts >>= λ first. more_references_at (first.0 ∷ []) first.1)
 unfolding same_symbol
 some_references_reader after_list d =
     let first = reference_reader Nothing (references_word after_list) (clause_sample word.References) (references_is after_list) d in
@@ -148,7 +149,7 @@ some_references_reader after_list d =
     (reference_reader Nothing is_references (clause_sample word.References) (references_is true) d)
     (first_peek Nothing is_references (clause_sample word.References) (references_is true) AfterWord d (λ t. (after_word_reader Nothing t d).able)) (λ t e. inl e) (λ t s. absurd s) (λ t s. absurd s) in
     record {
-      law = λ ts. then_law BodyNext Nothing (Reference (references_word after_list)) MoreReferences d ts (reference_at (references_word after_list) ts) (λ first. more_references_at first.0 first.1) (first.law ts)
+      law = λ ts. then_law BodyNext Nothing (Reference (references_word after_list)) MoreReferences d ts (reference_at (references_word after_list) ts) (λ first. more_references_at (first.0 ∷ []) first.1) (first.law ts)
           (λ a r e. further_law MOST_REFERENCES parts (length r) (a ∷ []) r (omega arith)) (λ a. further_able MOST_REFERENCES _ _ (a ∷ []) d) (λ a d' g next avoids t us s h. s);
       able = then_began {Q = MoreReferences} (λ a. further_able MOST_REFERENCES _ _ (a ∷ []) d) first.able;
     }

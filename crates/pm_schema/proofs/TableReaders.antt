@@ -44,10 +44,10 @@ after_table_reader t d =
     (λ a d' g next avoids t ts s h. no_body_next t s h.0)))))
     (λ a d' g next avoids u ts s h. s)
 
-abbrev Table : Phrase TableText
+abbrev pub Table : Phrase TableText
 Table _ g = IsTable g
 
-table_reader : (d : ℕ) → Reader Nothing Table d table_at
+pub table_reader : (d : ℕ) → Reader Nothing Table d table_at
 unfolding table_at
 table_reader d = word_reader Nothing word.Table AfterTable d _ (λ t. after_table_reader t d)
 

@@ -1,11 +1,12 @@
--- What reading a schema answers, token by token: these functions describe the steps of the readers.
+-- Steps of the bodies that read a schema: proofs compute with them, and no public contract cites them. What is read is said in Grammar.
 use Rattle.std.specs.Prelude.{ℕ, Bool, true, false, ◌||◌, if◌then◌else◌, List, [], ◌∷◌, Option, Ok, length, drop, is_some}
 use Rattle.pm_lexer.specs.declared.token.Token.{Token}
 use Rattle.pm_lexer.specs.declared.symbol.Symbol.TheVariants as symbol
 use Rattle.pm_lexer.specs.Symbol.{is}
 use Rattle.pm_lexer.specs.Pieces.{content_of}
 use Rattle.pm_grammar.specs.declared.names.PlacedName.{PlacedName}
-use Rattle.pm_grammar.specs.Reading.{Read, ◌>>=◌, sees, token_at, name_at, named, list_at, more_at, more_while, clause_at}
+use Rattle.pm_grammar.specs.Reading.{Read, ◌>>=◌, sees, token_at, name_at, named, clause_at}
+use Rattle.pm_grammar.specs.Steps.{list_at, more_at, more_while}
 use Rattle.pm_values.specs.declared.value.Kind.{Kind}
 use Rattle.pm_values.specs.declared.value.Kind.TheVariants as kind
 use Rattle.pm_values.specs.declared.limits.TheConstants.{MOST_COLUMNS, MOST_KEY_COLUMNS, MOST_REFERENCES}
@@ -35,9 +36,12 @@ column_at names ts =
     token_at names ts >>= λ name. kind_at name.1 >>= λ kind. nullable_at kind.1 >>= λ nullable.
     Ok (record { name = named name.0; kind = kind.0; nullable = nullable.0 }, nullable.1)
 
+abbrev pub name_list_at : List Token → Read (List PlacedName)
+name_list_at ts = list_at (is symbol.Comma) (token_at is_name) (name_at is_name) MOST_KEY_COLUMNS ts
+
 unfoldable pub names_at : List Token → Read (List PlacedName)
 names_at ts =
-    token_at (is symbol.Open) ts >>= λ paren. list_at (is symbol.Comma) (token_at is_name) (name_at is_name) MOST_KEY_COLUMNS paren.1 >>= λ names. token_at (is symbol.Close) names.1 >>= λ close.
+    token_at (is symbol.Open) ts >>= λ paren. name_list_at paren.1 >>= λ names. token_at (is symbol.Close) names.1 >>= λ close.
     Ok (names.0, close.1)
 
 abbrev pub clause_names_at : (Token → Bool) → List Token → Read (Option (List PlacedName))
@@ -48,20 +52,23 @@ reference_at first ts =
     token_at first ts >>= λ begin. names_at begin.1 >>= λ columns. token_at (is_word word.To) columns.1 >>= λ to. name_at is_name to.1 >>= λ target. names_at target.1 >>= λ keys.
     Ok (record { columns = columns.0; target = target.0; keys = keys.0 }, keys.1)
 
-abbrev pub more_references_at : ReferenceText → List Token → Read (List ReferenceText)
-more_references_at first ts = more_at (is symbol.Comma) (token_at (is symbol.Comma)) (token_at is_references) (λ _. reference_at is_references) MOST_REFERENCES (length ts) (first ∷ []) ts
+abbrev pub more_references_at : List ReferenceText → List Token → Read (List ReferenceText)
+more_references_at before ts = more_at (is symbol.Comma) (token_at (is symbol.Comma)) (token_at is_references) (λ _. reference_at is_references) MOST_REFERENCES (length ts) before ts
 
 unfoldable pub references_at : (Token → Bool) → List Token → Read (List ReferenceText)
-references_at first ts = if sees (is symbol.Comma) ts then (reference_at first (drop 1 ts) >>= λ reference. more_references_at reference.0 reference.1) else Ok ([], ts)
+references_at first ts = if sees (is symbol.Comma) ts then (reference_at first (drop 1 ts) >>= λ reference. more_references_at (reference.0 ∷ []) reference.1) else Ok ([], ts)
 
 unfoldable pub clauses_at : List ColumnText → List Token → Read Body
 clauses_at columns ts =
     clause_names_at (is_clause word.Key) ts >>= λ key. clause_names_at (is symbol.Order) key.1 >>= λ order. references_at (references_word (is_some key.0 || is_some order.0)) order.1 >>= λ references.
     Ok (record { columns = columns; key = key.0; order = order.0; references = references.0 }, references.1)
 
+abbrev pub more_columns_at : List ColumnText → List Token → Read (List ColumnText)
+more_columns_at before ts = more_while (is symbol.Comma) (is symbol.Name) (column_at (is symbol.Name)) MOST_COLUMNS (length ts) before ts
+
 unfoldable pub body_at : List Token → Read Body
 body_at ts =
-    column_at is_name ts >>= λ first. more_while (is symbol.Comma) (is symbol.Name) (column_at (is symbol.Name)) MOST_COLUMNS (length first.1) (first.0 ∷ []) first.1 >>= λ columns.
+    column_at is_name ts >>= λ first. more_columns_at (first.0 ∷ []) first.1 >>= λ columns.
     clauses_at columns.0 columns.1
 
 unfoldable pub table_at : List Token → Read TableText

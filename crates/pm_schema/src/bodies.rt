@@ -2,7 +2,7 @@
 ghost use Rattle.std.specs.Prelude.{◌≡◌};
 ghost use Rattle.pm_grammar.specs.Outcome.{Gives};
 ghost use Rattle.pm_schema.specs.Terminals.{stands, scale_of, references_word};
-ghost use Rattle.pm_schema.specs.Reading.{num_at, kind_at, nullable_at, column_at, names_at, clause_names_at, reference_at, references_at, clauses_at, body_at};
+ghost use Rattle.pm_schema.specs.Reading.{num_at, kind_at, nullable_at, column_at, names_at, name_list_at, clause_names_at, reference_at, more_references_at, more_columns_at, references_at, clauses_at, body_at};
 
 use crate::terminals::{SchemaTerminal, Word};
 use crate::tree::{Body, ColumnText, ColumnTexts, ReferenceText, ReferenceTexts};
@@ -93,6 +93,7 @@ impl Entry for NextColumn {
     ghost use Rattle.pm_lexer.specs.Symbol.{is};
     ghost use Rattle.pm_grammar.specs.Reading.{token_at};
     ghost use Rattle.pm_schema.specs.Reading.{column_at};
+    ghost use Rattle.pm_schema.proofs.Entries.{column_keeps};
 
     type Value = ColumnText;
 
@@ -107,6 +108,8 @@ impl Entry for NextColumn {
     fn peek(tokens: &[Token]) -> Result<(&Token, &[Token]), SynBad> {
         token(Symbol::Name, tokens)
     }
+
+    ghost shortens = { column_keeps };
 }
 
 // A name in a list.
@@ -115,6 +118,7 @@ struct ListedName;
 impl Entry for ListedName {
     ghost use Rattle.pm_grammar.specs.Reading.{token_at, name_at};
     ghost use Rattle.pm_schema.specs.Terminals.{is_name};
+    ghost use Rattle.pm_schema.proofs.Entries.{name_keeps};
 
     type Value = PlacedName;
 
@@ -129,6 +133,15 @@ impl Entry for ListedName {
     fn peek(tokens: &[Token]) -> Result<(&Token, &[Token]), SynBad> {
         token(SchemaTerminal::Name, tokens)
     }
+
+    ghost shortens = { name_keeps };
+}
+
+// name { "," name }
+fn name_list(alloc: Global, tokens: &[Token]) -> Result<(PlacedNames, &[Token]), SynBad>
+    ensures { Gives (λ x. (x.0, x.1.now)) result (name_list_at tokens.now) }
+{
+    list::<ListedName, Symbol>(alloc, Symbol::Comma, MOST_KEY_COLUMNS, tokens)
 }
 
 // list = "(" name { "," name } ")"
@@ -137,7 +150,7 @@ fn names(alloc: Global, tokens: &[Token]) -> Result<(PlacedNames, &[Token]), Syn
     ensures { Gives (λ x. (x.0, x.1.now)) result (names_at tokens.now) }
 {
     let (_, rest) = token(Symbol::Open, tokens)?;
-    let (names, rest) = list::<ListedName, Symbol>(alloc, Symbol::Comma, MOST_KEY_COLUMNS, rest)?;
+    let (names, rest) = name_list(alloc, rest)?;
     let (_, rest) = token(Symbol::Close, rest)?;
     Ok((names, rest))
 }
@@ -192,6 +205,7 @@ impl Entry for NextReference {
     ghost use Rattle.pm_grammar.specs.Reading.{token_at};
     ghost use Rattle.pm_schema.specs.Terminals.{is_references};
     ghost use Rattle.pm_schema.specs.Reading.{reference_at};
+    ghost use Rattle.pm_schema.proofs.Entries.{reference_keeps};
 
     type Value = ReferenceText;
 
@@ -206,6 +220,19 @@ impl Entry for NextReference {
     fn peek(tokens: &[Token]) -> Result<(&Token, &[Token]), SynBad> {
         token(SchemaTerminal::References, tokens)
     }
+
+    ghost shortens = { reference_keeps };
+}
+
+// Further references.
+fn more_references(
+    alloc: Global,
+    references: ReferenceTexts,
+    rest: &[Token],
+) -> Result<(ReferenceTexts, &[Token]), SynBad>
+    ensures { Gives (λ x. (x.0, x.1.now)) result (more_references_at references rest.now) }
+{
+    further::<NextReference, Symbol>(alloc, Symbol::Comma, MOST_REFERENCES, references, rest)
 }
 
 // { "," reference }, where this terminal stands for the first REFERENCES
@@ -223,7 +250,7 @@ fn references(
     };
     let (first, rest) = reference(alloc, word, next)?;
     references.push(first)?;
-    further::<NextReference, Symbol>(alloc, Symbol::Comma, MOST_REFERENCES, references, rest)
+    more_references(alloc, references, rest)
 }
 
 // [ "," KEY list ] [ "," ORDER list ] { "," reference }, after the columns
@@ -261,6 +288,24 @@ fn references_word(after_list: bool) -> SchemaTerminal
     }
 }
 
+// Further columns.
+fn more_columns(
+    alloc: Global,
+    columns: ColumnTexts,
+    rest: &[Token],
+) -> Result<(ColumnTexts, &[Token]), SynBad>
+    ensures { Gives (λ x. (x.0, x.1.now)) result (more_columns_at columns rest.now) }
+{
+    further_while::<NextColumn, Symbol, Symbol>(
+        alloc,
+        Symbol::Comma,
+        Symbol::Name,
+        MOST_COLUMNS,
+        columns,
+        rest,
+    )
+}
+
 // body = column { "," column } [ "," KEY list ] [ "," ORDER list ] { "," reference }
 #[tactic(auto, unfolding(crate::specs::Reading::body_at))]
 pub(crate) fn body(alloc: Global, tokens: &[Token]) -> Result<(Body, &[Token]), SynBad>
@@ -269,13 +314,6 @@ pub(crate) fn body(alloc: Global, tokens: &[Token]) -> Result<(Body, &[Token]), 
     let mut columns = ColumnTexts::new(alloc);
     let (first, rest) = column(alloc, SchemaTerminal::Name, tokens)?;
     columns.push(first)?;
-    let (columns, rest) = further_while::<NextColumn, Symbol, Symbol>(
-        alloc,
-        Symbol::Comma,
-        Symbol::Name,
-        MOST_COLUMNS,
-        columns,
-        rest,
-    )?;
+    let (columns, rest) = more_columns(alloc, columns, rest)?;
     clauses(alloc, columns, rest)
 }

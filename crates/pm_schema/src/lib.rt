@@ -1,6 +1,5 @@
 //! Reads a schema text from its tokens: `read_schema` gives the tables that the text declares exactly where it has a
-//! reading that breaks no rule, and else the refusal with its place. The grammar and the rules are in specs/, and
-//! the readers answer what the reading functions there say.
+//! reading that breaks no rule, and else the refusal with its place. The grammar and the rules are in specs/.
 #![tactic(auto)]
 
 mod bodies;

@@ -5,7 +5,7 @@ use Rattle.pm_lexer.specs.declared.symbol.Symbol.{Symbol}
 use Rattle.pm_lexer.specs.declared.symbol.Symbol.TheVariants as symbol
 use Rattle.pm_lexer.specs.Symbol.{same_symbol, is}
 use Rattle.pm_grammar.specs.Language.{Gate, Is, IsFurther, IsList, IsOptional}
-use Rattle.pm_grammar.specs.Reading.{Read, ◌>>=◌, token_at, more_at, named, optional_at}
+use Rattle.pm_grammar.specs.Reading.{Read, ◌>>=◌, token_at, named, optional_at}
 use Rattle.pm_grammar.specs.declared.names.PlacedName.{PlacedName}
 use Rattle.pm_grammar.proofs.Phrases.{Phrase, Next, Reader, Nothing, Began}
 use Rattle.pm_grammar.proofs.Readers.{Then, Or, Same, then_law, then_began}
@@ -25,7 +25,7 @@ use Rattle.pm_syntax.specs.declared.tree.OrderItem.{OrderItem}
 use Rattle.pm_syntax.specs.declared.tree.Select.{Select}
 use Rattle.pm_syntax.specs.Terminals.{begins_link}
 use Rattle.pm_syntax.specs.Grammar.{IsName, IsExpr, IsGiven, IsItem, IsItems, IsLink, IsJoinCondition, IsOn, is_left, IsSource, IsSources, IsFilter, IsGroups, IsHaving, IsDirection, IsKey, IsOrders, IsSelect}
-use Rattle.pm_syntax.specs.Reading.{given_at, item_at, items_at, link_at, join_condition_at, on_at, source_at, sources_at, where_at, having_at, groups_at, direction_at, key_at, orders_at, select_at}
+use Rattle.pm_syntax.specs.Reading.{given_at, item_at, items_at, link_at, join_condition_at, on_at, source_at, more_sources_at, sources_at, where_at, having_at, groups_at, direction_at, key_at, orders_at, select_at}
 use Rattle.pm_grammar.proofs.Productions.{Production, begins_of, done, symbol_then, mapped, followed, maybe_followed, wider, looser, same, choose, after, optional, may, list, peeks, reversed}
 use Rattle.pm_syntax.proofs.ExprReaders.{names, columns, column_began, exprs, expr_began, one_of_four, four_of_one}
 use Rattle.pm_syntax.proofs.PartReaders.{Conds, cond_ends, conditions}
@@ -38,7 +38,7 @@ name_peeks first began = peeks (is symbol.Name) (λ t e. inl e) (λ t h. elim h 
 abbrev Named : Phrase (Option PlacedName)
 Named _ _ next = IsName (λ name. next (Some name))
 
-abbrev given_symbols : List Symbol
+abbrev pub given_symbols : List Symbol
 given_symbols = symbol.As ∷ symbol.Name ∷ []
 
 givens : (d : ℕ) → Production true given_symbols given_symbols (λ _ _. IsGiven) d given_at
@@ -48,13 +48,13 @@ givens d =
     (after symbol.As refl (mapped {P = λ _ _. IsName} (λ name. Some name) (names {ends = given_symbols} d)) (choose symbol.Name (mapped {P = λ _ _. IsName} (λ name. Some name) (names d)) (done None) refl refl) refl refl)
 
 -- item = expr [ [ AS ] name ]
-abbrev item_ends : List Symbol
+abbrev pub item_ends : List Symbol
 item_ends = symbol.Point ∷ symbol.Open ∷ given_symbols
 
 abbrev Given : Expr → Phrase Item
 Given e _ _ next = IsGiven (λ given. next (record { expr = e; given = given }))
 
-item_list : (d : ℕ) → Production false (symbol.Name ∷ []) item_ends (λ _ _. IsItem) d item_at
+pub item_list : (d : ℕ) → Production false (symbol.Name ∷ []) item_ends (λ _ _. IsItem) d item_at
 unfolding item_at same_symbol
 item_list d =
     followed {P = λ _ _. IsExpr} {Q = Given} _ (exprs d) (λ e. mapped {P = λ _ _. IsGiven} (λ given. record { expr = e; given = given }) (wider given_symbols item_ends refl (givens d))) refl refl
@@ -106,7 +106,7 @@ unfolding same_symbol
 first_link t h = four_of_one (is symbol.Comma t) (is symbol.Join t) (is symbol.Inner t) (is symbol.Left t) (within link_firsts link_starts refl t h)
 
 -- source = name [ [ AS ] name ], with its condition
-abbrev source_ends : List Symbol
+abbrev pub source_ends : List Symbol
 source_ends = symbol.Point ∷ symbol.Open ∷ symbol.And ∷ symbol.Or ∷ given_symbols
 
 abbrev On : Link → Phrase (Option Test)
@@ -131,7 +131,7 @@ Linked l table alias d g next = IsOn d g l (λ on. next (made_source l table ali
 abbrev Aliased : Link → PlacedName → Phrase Source
 Aliased l table d g next = IsGiven (λ alias. Linked l table alias d g next)
 
-abbrev Sourced : Link → Phrase Source
+abbrev pub Sourced : Link → Phrase Source
 Sourced l d g = IsSource d g l
 
 sources : (l : Link) (d : ℕ) → Production false (symbol.Name ∷ []) source_ends (Sourced l) d (source_at d l)
@@ -147,14 +147,14 @@ source_began l t e d =
     (record { more = []; value = named t; ends = λ d' g next v le o h. (e, h) })
 
 -- sources = source { "," source | [ INNER ] JOIN source ON cond | LEFT [ OUTER ] JOIN source ON cond }
-abbrev sources_ends : List Symbol
+abbrev pub sources_ends : List Symbol
 sources_ends = symbol.Comma ∷ symbol.Join ∷ symbol.Inner ∷ symbol.Left ∷ source_ends
 
 no_link : (d : ℕ) (g : Gate) (next : Next Link) (t : Token) (ts : List Token) → AnyOf source_ends t → IsLink next (t ∷ ts) → ⊥
 unfolding same_symbol
 no_link d g next t ts s h = disjoint link_firsts source_ends refl t (begins_of link_firsts (links {ends = []} d).leads d g next (t ∷ ts) h) s
 
-source_parts : (d : ℕ) → Parts (AnyOf sources_ends) (AnyOf source_ends) (λ _ _. IsLink) Sourced begins_link link_at (token_at (is symbol.Name)) (source_at d) d
+pub source_parts : (d : ℕ) → Parts (AnyOf sources_ends) (AnyOf source_ends) (λ _ _. IsLink) Sourced begins_link link_at (token_at (is symbol.Name)) (source_at d) d
 unfolding same_symbol
 source_parts d = record {
   reads_sep = (links {ends = []} d).reads;
@@ -174,7 +174,7 @@ source_list d =
     record {
       reads = record {
         law = λ ts. then_law (AnyOf sources_ends) (AnyOf source_ends) (Sourced link.Comma) (λ a. Further 64 (λ _ _. IsLink) Sourced (a ∷ [])) d ts (source_at d link.Comma ts)
-            (λ first. more_at begins_link link_at (token_at (is symbol.Name)) (source_at d) 64 (length first.1) (first.0 ∷ []) first.1) (first.reads.law ts)
+            (λ first. more_sources_at d (first.0 ∷ []) first.1) (first.reads.law ts)
             (λ a r e. further_law 64 k (length r) (a ∷ []) r (omega arith)) (λ a. further_able 64 _ _ (a ∷ []) d)
             (λ a d' g next avoids t us s h. more_clear (AnyOf sources_ends) (AnyOf source_ends) 64 (λ _ _. IsLink) Sourced [] (λ t s. inr (inr (inr (inr s)))) no_link h.0 a d' g next avoids t us s h.1);
         able = then_began (λ a. further_able 64 (λ _ _. IsLink) Sourced (a ∷ []) d) first.reads.able;
@@ -202,7 +202,7 @@ groups d =
     (symbol_then symbol.By refl (λ _. list symbol.Comma refl 64 (columns d) (name_peeks (columns d) (λ t e. column_began t e d)) refl))) refl
 
 -- key = expr [ ASC | DESC ]
-abbrev direction_symbols : List Symbol
+abbrev pub direction_symbols : List Symbol
 direction_symbols = symbol.Desc ∷ symbol.Asc ∷ []
 
 directions : (d : ℕ) → Production true direction_symbols direction_symbols (λ _ _. IsDirection) d direction_at
@@ -211,13 +211,13 @@ directions d =
     same (reversed (Then (λ _ _. Is (is symbol.Desc)) (λ _ _ _ next. next true)) (Then (λ _ _. Is (is symbol.Asc)) (λ _ _ _ next. next false)) (λ _ _ next. next false))
     (after symbol.Desc refl (done true) (after symbol.Asc refl (done false) (done false) refl refl) refl refl)
 
-abbrev key_ends : List Symbol
+abbrev pub key_ends : List Symbol
 key_ends = symbol.Point ∷ symbol.Open ∷ direction_symbols
 
 abbrev Directed : Expr → Phrase OrderItem
 Directed e _ _ next = IsDirection (λ descending. next (record { expr = e; descending = descending }))
 
-keys : (d : ℕ) → Production false (symbol.Name ∷ []) key_ends (λ _ _. IsKey) d key_at
+pub keys : (d : ℕ) → Production false (symbol.Name ∷ []) key_ends (λ _ _. IsKey) d key_at
 unfolding key_at same_symbol
 keys d = followed {P = λ _ _. IsExpr} {Q = Directed} _ (exprs d) (λ e. mapped {P = λ _ _. IsDirection} (λ descending. record { expr = e; descending = descending }) (wider direction_symbols key_ends refl (directions d))) refl refl
 

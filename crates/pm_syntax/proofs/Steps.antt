@@ -1,7 +1,8 @@
 -- What stops the reading of a list.
 use Rattle.std.proofs.Common.{◌≡◌, List, [], ◌∷◌, length, Ok}
 use Rattle.pm_lexer.specs.declared.token.Token.{Token}
-use Rattle.pm_grammar.specs.Reading.{Read, token_at, more_at, list_at}
+use Rattle.pm_grammar.specs.Reading.{Read, token_at}
+use Rattle.pm_grammar.specs.Steps.{more_at, list_at}
 use Rattle.pm_grammar.specs.Outcome.{Fails}
 use Rattle.pm_grammar.proofs.Outcomes.{bind_fails}
 use Rattle.pm_grammar.specs.declared.fault.SynBad.{SynBad}

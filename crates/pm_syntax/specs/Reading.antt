@@ -1,10 +1,11 @@
--- What reading a statement answers, token by token.
+-- Steps of the bodies that read a statement: proofs compute with them, and no public contract cites them. What is read is said in Grammar.
 use Rattle.std.specs.Prelude.{ℕ, zero, suc, pos, neg_ℤ, Bool, true, false, if◌then◌else◌, ◌&&◌, List, [], ◌∷◌, Option, Some, None, Ok, Err, length, drop, is_some, unwrap_or}
 use Rattle.pm_lexer.specs.declared.token.Token.{Token}
 use Rattle.pm_lexer.specs.declared.symbol.Symbol.TheVariants as symbol
 use Rattle.pm_lexer.specs.Symbol.{is}
 use Rattle.pm_lexer.specs.Pieces.{content_of, decimals_len}
-use Rattle.pm_grammar.specs.Reading.{too_deep, Read, ◌>>=◌, place_of, sees, token_at, more_at, list_at, optional_at, named, name_at}
+use Rattle.pm_grammar.specs.Reading.{too_deep, Read, ◌>>=◌, place_of, sees, token_at, optional_at, named, name_at}
+use Rattle.pm_grammar.specs.Steps.{more_at, list_at}
 use Rattle.pm_grammar.specs.declared.names.PlacedName.{PlacedName}
 use Rattle.pm_syntax.specs.declared.tree.ColumnName.{ColumnName}
 use Rattle.pm_syntax.specs.declared.tree.Func.TheVariants as func
@@ -130,10 +131,13 @@ given_at ts =
 unfoldable pub item_at : List Token → Read Item
 item_at ts = expr_at ts >>= λ e. given_at e.1 >>= λ given. Ok (record { expr = e.0; given = given.0 }, given.1)
 
+abbrev pub item_list_at : List Token → Read (List Item)
+item_list_at ts = list_at (is symbol.Comma) (token_at (is symbol.Name)) item_at 64 ts
+
 unfoldable pub items_at : List Token → Read Items
 items_at ts =
     if sees (is symbol.Star) ts then (token_at (is symbol.Star) ts >>= λ star. Ok (items.All star.0.at, star.1))
-    else (list_at (is symbol.Comma) (token_at (is symbol.Name)) item_at 64 ts >>= λ list. Ok (items.List list.0, list.1))
+    else (item_list_at ts >>= λ list. Ok (items.List list.0, list.1))
 
 unfoldable pub link_at : List Token → Read Link
 link_at ts =
@@ -155,8 +159,11 @@ source_at d l ts =
     name_at (is symbol.Name) ts >>= λ table. given_at table.1 >>= λ alias. on_at d l alias.1 >>= λ on.
     Ok (record { table = table.0; alias = alias.0; on = on.0; left = is_left l }, on.1)
 
+abbrev pub more_sources_at : ℕ → List Source → List Token → Read (List Source)
+more_sources_at d before ts = more_at begins_link link_at (token_at (is symbol.Name)) (source_at d) 64 (length ts) before ts
+
 unfoldable pub sources_at : ℕ → List Token → Read (List Source)
-sources_at d ts = source_at d link.Comma ts >>= λ first. more_at begins_link link_at (token_at (is symbol.Name)) (source_at d) 64 (length first.1) (first.0 ∷ []) first.1
+sources_at d ts = source_at d link.Comma ts >>= λ first. more_sources_at d (first.0 ∷ []) first.1
 
 unfoldable pub where_at : ℕ → List Token → Read (Option Test)
 where_at d ts = if sees (is symbol.Where) ts then (condition_at false d (drop 1 ts) >>= λ cond. Ok (Some cond.0, cond.1)) else Ok (None, ts)
@@ -164,9 +171,12 @@ where_at d ts = if sees (is symbol.Where) ts then (condition_at false d (drop 1 
 unfoldable pub having_at : ℕ → List Token → Read (Option Test)
 having_at d ts = if sees (is symbol.Having) ts then (condition_at true d (drop 1 ts) >>= λ cond. Ok (Some cond.0, cond.1)) else Ok (None, ts)
 
+abbrev pub column_list_at : List Token → Read (List ColumnName)
+column_list_at ts = list_at (is symbol.Comma) (token_at (is symbol.Name)) column_at 64 ts
+
 unfoldable pub groups_at : List Token → Read (List ColumnName)
 groups_at ts =
-    if sees (is symbol.Group) ts then (token_at (is symbol.By) (drop 1 ts) >>= λ by. list_at (is symbol.Comma) (token_at (is symbol.Name)) column_at 64 by.1)
+    if sees (is symbol.Group) ts then (token_at (is symbol.By) (drop 1 ts) >>= λ by. column_list_at by.1)
     else Ok ([], ts)
 
 unfoldable pub direction_at : List Token → Read Bool
@@ -175,9 +185,12 @@ direction_at ts = if sees (is symbol.Desc) ts then Ok (true, drop 1 ts) else (if
 unfoldable pub key_at : List Token → Read OrderItem
 key_at ts = expr_at ts >>= λ e. direction_at e.1 >>= λ descending. Ok (record { expr = e.0; descending = descending.0 }, descending.1)
 
+abbrev pub key_list_at : List Token → Read (List OrderItem)
+key_list_at ts = list_at (is symbol.Comma) (token_at (is symbol.Name)) key_at 64 ts
+
 unfoldable pub orders_at : List Token → Read (List OrderItem)
 orders_at ts =
-    if sees (is symbol.Order) ts then (token_at (is symbol.By) (drop 1 ts) >>= λ by. list_at (is symbol.Comma) (token_at (is symbol.Name)) key_at 64 by.1)
+    if sees (is symbol.Order) ts then (token_at (is symbol.By) (drop 1 ts) >>= λ by. key_list_at by.1)
     else Ok ([], ts)
 
 unfoldable pub select_at : ℕ → List Token → Read Select

@@ -3,7 +3,8 @@ ghost use Rattle.std.specs.Prelude.{◌≡◌, length, nat_le, unwrap_or};
 ghost use Rattle.std.specs.Option.{option_copied};
 ghost use Rattle.pm_lexer.specs.declared.symbol.Symbol.TheVariants as symbol;
 ghost use Rattle.pm_lexer.specs.Symbol.{is};
-ghost use Rattle.pm_grammar.specs.Reading.{token_at, entry_at, more_at, sees};
+ghost use Rattle.pm_grammar.specs.Reading.{token_at, entry_at, sees};
+ghost use Rattle.pm_grammar.specs.Steps.{more_at};
 ghost use Rattle.pm_syntax.specs.Grammar.{all_of, any_of};
 ghost use Rattle.pm_grammar.specs.Outcome.{Gives};
 ghost use Rattle.pm_syntax.specs.Terminals.{comparison_of};
@@ -258,7 +259,7 @@ fn and_member(
 }
 
 // part-and = part { AND part }
-#[tactic(auto, unfolding(pm_grammar::specs::Reading::list_at, crate::specs::Reading::ands_at))]
+#[tactic(auto, unfolding(pm_grammar::specs::Steps::list_at, crate::specs::Reading::ands_at))]
 #[cycle(cond)]
 fn part_and(
     alloc: Global,
@@ -321,7 +322,7 @@ fn or_member(
 }
 
 // cond = part-and { OR part-and }
-#[tactic(auto, unfolding(pm_grammar::specs::Reading::list_at, crate::specs::Reading::cond_at))]
+#[tactic(auto, unfolding(pm_grammar::specs::Steps::list_at, crate::specs::Reading::cond_at))]
 #[cycle(cond)]
 fn cond(
     alloc: Global,

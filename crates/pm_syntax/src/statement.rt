@@ -9,14 +9,14 @@ ghost use Rattle.pm_grammar.specs.Reading.{whole};
 ghost use Rattle.pm_grammar.specs.Outcome.{Gives};
 ghost use Rattle.pm_syntax.specs.declared.tree.Select.{Select};
 ghost use Rattle.pm_syntax.specs.Statement.{CallsFor};
-ghost use Rattle.pm_syntax.specs.Reading.{items_at, link_at, join_condition_at, on_at, source_at, sources_at, where_at, having_at, groups_at, orders_at, select_at};
+ghost use Rattle.pm_syntax.specs.Reading.{item_list_at, items_at, link_at, join_condition_at, on_at, source_at, more_sources_at, sources_at, where_at, having_at, column_list_at, groups_at, key_list_at, orders_at, select_at};
 
 use crate::conditions::condition;
 use crate::entries::given;
 use crate::terminals::LinkStart;
 use crate::tree::{
-    ColumnName, ColumnNames, Item, Items, Link, OrderItem, OrderItems, Select, Source, Sources,
-    Test,
+    ColumnName, ColumnNames, Item, Items, Link, OrderItem, OrderItems, Select, SelectItems, Source,
+    Sources, Test,
 };
 use pm_grammar::{
     Series, SynBad, further_series, list, name, optional, sees, strip_terminal, token,
@@ -30,6 +30,13 @@ const ENTRIES: usize = 64;
 /// At most so many parentheses and NOTs of a condition are open.
 const OPEN: u32 = 32;
 
+// item { "," item }
+fn item_list(alloc: Global, tokens: &[Token]) -> Result<(SelectItems, &[Token]), SynBad>
+    ensures { Gives (λ x. (x.0, x.1.now)) result (item_list_at tokens.now) }
+{
+    list::<Item, Symbol>(alloc, Symbol::Comma, ENTRIES, tokens)
+}
+
 // items = "*" | item { "," item }
 #[tactic(auto, unfolding(crate::specs::Reading::items_at))]
 fn items(alloc: Global, tokens: &[Token]) -> Result<(Items, &[Token]), SynBad>
@@ -40,7 +47,7 @@ fn items(alloc: Global, tokens: &[Token]) -> Result<(Items, &[Token]), SynBad>
         let at = star.at;
         return Ok((Items::All { at }, rest));
     }
-    let (list, rest) = list::<Item, Symbol>(alloc, Symbol::Comma, ENTRIES, tokens)?;
+    let (list, rest) = item_list(alloc, tokens)?;
     Ok((Items::List(list), rest))
 }
 
@@ -111,6 +118,7 @@ impl Series for Source {
     ghost use Rattle.pm_grammar.specs.Reading.{token_at};
     ghost use Rattle.pm_syntax.specs.Terminals.{begins_link};
     ghost use Rattle.pm_syntax.specs.Reading.{link_at, source_at};
+    ghost use Rattle.pm_syntax.proofs.Entries.{source_shortens};
 
     type Separator = Link;
 
@@ -139,6 +147,19 @@ impl Series for Source {
     fn read(alloc: Global, link: Link, tokens: &[Token]) -> Result<(Source, &[Token]), SynBad> {
         source(alloc, link, tokens)
     }
+
+    ghost shortens = { source_shortens };
+}
+
+// Further sources.
+fn more_sources(
+    alloc: Global,
+    sources: Sources,
+    tokens: &[Token],
+) -> Result<(Sources, &[Token]), SynBad>
+    ensures { Gives (λ x. (x.0, x.1.now)) result (more_sources_at 32 sources tokens.now) }
+{
+    further_series::<Source>(alloc, ENTRIES, sources, tokens)
 }
 
 // sources = source { "," source | [ INNER ] JOIN source ON cond | LEFT [ OUTER ] JOIN source ON cond }
@@ -149,7 +170,7 @@ fn sources(alloc: Global, tokens: &[Token]) -> Result<(Sources, &[Token]), SynBa
     let mut list = Sources::new(alloc);
     let (first, rest) = source(alloc, Link::Comma, tokens)?;
     list.push(first)?;
-    further_series::<Source>(alloc, ENTRIES, list, rest)
+    more_sources(alloc, list, rest)
 }
 
 // [ WHERE cond ]
@@ -164,6 +185,13 @@ fn filter(alloc: Global, tokens: &[Token]) -> Result<(Option<Test>, &[Token]), S
     Ok((Some(cond), rest))
 }
 
+// column { "," column }
+fn column_list(alloc: Global, tokens: &[Token]) -> Result<(ColumnNames, &[Token]), SynBad>
+    ensures { Gives (λ x. (x.0, x.1.now)) result (column_list_at tokens.now) }
+{
+    list::<ColumnName, Symbol>(alloc, Symbol::Comma, ENTRIES, tokens)
+}
+
 // [ GROUP BY column { "," column } ]
 #[tactic(auto, unfolding(crate::specs::Reading::groups_at))]
 fn groups(alloc: Global, tokens: &[Token]) -> Result<(ColumnNames, &[Token]), SynBad>
@@ -173,7 +201,7 @@ fn groups(alloc: Global, tokens: &[Token]) -> Result<(ColumnNames, &[Token]), Sy
         return Ok((ColumnNames::new(alloc), tokens));
     };
     let (_, rest) = token(Symbol::By, rest)?;
-    list::<ColumnName, Symbol>(alloc, Symbol::Comma, ENTRIES, rest)
+    column_list(alloc, rest)
 }
 
 // [ HAVING cond ]
@@ -188,6 +216,13 @@ fn having(alloc: Global, tokens: &[Token]) -> Result<(Option<Test>, &[Token]), S
     Ok((Some(cond), rest))
 }
 
+// key { "," key }
+fn key_list(alloc: Global, tokens: &[Token]) -> Result<(OrderItems, &[Token]), SynBad>
+    ensures { Gives (λ x. (x.0, x.1.now)) result (key_list_at tokens.now) }
+{
+    list::<OrderItem, Symbol>(alloc, Symbol::Comma, ENTRIES, tokens)
+}
+
 // [ ORDER BY key { "," key } ]
 #[tactic(auto, unfolding(crate::specs::Reading::orders_at))]
 fn orders(alloc: Global, tokens: &[Token]) -> Result<(OrderItems, &[Token]), SynBad>
@@ -197,7 +232,7 @@ fn orders(alloc: Global, tokens: &[Token]) -> Result<(OrderItems, &[Token]), Syn
         return Ok((OrderItems::new(alloc), tokens));
     };
     let (_, rest) = token(Symbol::By, rest)?;
-    list::<OrderItem, Symbol>(alloc, Symbol::Comma, ENTRIES, rest)
+    key_list(alloc, rest)
 }
 
 // A whole statement.

@@ -4,7 +4,8 @@ use Rattle.pm_lexer.specs.Pieces.{quotation, single_quotes}
 use Rattle.pm_lexer.specs.Head.{head_of, number_at, named_at, sign_at}
 use Rattle.pm_lexer.specs.Head.{name_at as word_at}
 use Rattle.pm_lexer.specs.Tokens.{tokens_of, tokens_after}
-use Rattle.pm_grammar.specs.Reading.{list_at, more_at, name_at}
+use Rattle.pm_grammar.specs.Reading.{name_at}
+use Rattle.pm_grammar.specs.Steps.{list_at, more_at}
 use Rattle.pm_syntax.specs.Terminals.{func_named}
 use Rattle.pm_syntax.specs.Reading.{column_after, column_at, call_after, expr_after, expr_at, literal_at, term_at, operand_at, literals_at, compare_after, null_after, in_after, between_after, range_after, test_after, test_at, ands_at, cond_at, part_peek, part_at, condition_at, given_at, item_at, items_at, link_at, join_condition_at, on_at, source_at, sources_at, where_at, having_at, groups_at, direction_at, key_at, orders_at, select_at}
 use Rattle.pm_values.proofs.Folds.{fold_any as cond_any, fold_not as cond_not, fold_compare as cond_compare}

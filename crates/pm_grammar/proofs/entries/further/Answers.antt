@@ -1,27 +1,30 @@
-use Rattle.std.proofs.Common.{arith, ◌+◌, ◌-◌, length, sym, ◌∙◌}
+use Rattle.std.proofs.Common.{arith, length, nat_le}
 use Rattle.std.proofs.lemmas.Result.{err_from_is_err_and}
-use Rattle.pm_grammar.proofs.Turns.{more_ends, more_stops, token_took, token_fails}
-use Rattle.pm_grammar.proofs.Outcomes.{fails_through}
+use Rattle.pm_grammar.specs.Lists.{ends, no_entry, another}
+use Rattle.pm_grammar.proofs.Furthers.{none_seen}
+use Rattle.pm_grammar.proofs.Turns.{seen}
+use Rattle.pm_grammar.proofs.Decided.{refused_by, further_shortens}
 use Rattle.pm_grammar.proofs.entries.further.Goals as goal
 
 pub returns-in_default : goal.returns-in_default
-returns-in_default g c = sym c.entries.invariant ∙ more_stops (g.T.Terminal.accepts c.args.separator) _ _ _ _ _ c.entries.list c.entries.rest.now c.in_default.ensures
+returns-in_default g c = c.entries.invariant.0 _ (ends c.entries.list c.entries.rest.now c.in_default.ensures)
 
 pub returns-in_err-entry : goal.returns-in_err-entry
 returns-in_err-entry g c =
     let p = err_from_is_err_and c.from_residual.result c.from_residual.ensures.1 in
-    let n = length c.args.rest.now - c.entries.counter in
-    let seen = c.in-Some.ensures in
-    let failed = rw (seen.1, c.len.ensures) at c.in_err-entry.ensures in
-    rw (p.1, p.2, ← c.entries.invariant) (fails_through _ _ _ (λ stop h. token_fails (g.T.Terminal.accepts c.args.separator) g.E.Entry.peeks g.E.Entry.reads c.args.limit n (n - 1) c.entries.list c.entries.rest.now stop (omega arith) seen.0 h) failed)
+    let next = c.in-Some.ensures in
+    let t = seen (g.T.Terminal.accepts c.args.separator) c.entries.rest.now next.0 in
+    let failed = rw (next.1, c.len.ensures) at c.in_err-entry.ensures in
+    rw (p.1, p.2) (refused_by _ _ _ (λ stop h. c.entries.invariant.0 _ (no_entry c.entries.list c.entries.rest.now t.0 _ stop next.0 t.1 h)) failed)
 
 pub entries-preserved : goal.entries-preserved
 entries-preserved g c =
-    let seen = c.in-Some.ensures in
-    let read = rw (seen.1, c.len.ensures) at c.in_ok-entry.ensures in
-    let n = length c.args.rest.now - c.entries.counter in
-    let took = token_took (g.T.Terminal.accepts c.args.separator) g.E.Entry.peeks g.E.Entry.reads c.args.limit n (length c.args.rest.now - (c.entries.counter + 1)) c.entries.list c.entries.rest.now _ _ (omega arith) seen.0 read in
-    rw c.in_ok-push.ensures.ok (sym took ∙ c.entries.invariant)
+    let next = c.in-Some.ensures in
+    let t = seen (g.T.Terminal.accepts c.args.separator) c.entries.rest.now next.0 in
+    let read = rw (next.1, c.len.ensures) at c.in_ok-entry.ensures in
+    let less = further_shortens (g.T.Terminal.accepts c.args.separator) g.E.Entry.peeks g.E.Entry.reads g.met.E.Entry.shortens (nat_le c.args.limit (length c.entries.list)) c.entries.rest.now _ _ t.0 _ t.1 read in
+    let within = c.entries.invariant.1 in
+    rw c.in_ok-push.ensures.ok ((λ all more. c.entries.invariant.0 all (another c.entries.list c.entries.rest.now t.0 _ _ _ all next.0 t.1 read more)), omega (arith, less, within))
 
 pub returns : goal.returns
-returns g c = sym c.entries.invariant ∙ more_ends _ _ _ _ _ _ c.entries.list c.entries.rest.now (omega arith)
+returns g c = c.entries.invariant.0 _ (ends c.entries.list c.entries.rest.now (none_seen (g.T.Terminal.accepts c.args.separator) c.entries.rest.now (omega (arith, c.entries.invariant.1))))

@@ -1,7 +1,7 @@
-use Rattle.std.proofs.Common.{◌≡◌, ◌-◌, length}
-use Rattle.pm_grammar.specs.Reading.{more_while}
+use Rattle.std.proofs.Common.{◌≤◌, ◌-◌, length}
+use Rattle.pm_grammar.specs.Lists.{ReadsWhile}
+use Rattle.pm_grammar.proofs.Decided.{Continues}
 use Rattle.pm_grammar.proofs.entries.further_while.Given as goal
 
 abbrev pub invariant-entries : goal.invariant-entries
-invariant-entries g l = more_while (g.T.Terminal.accepts l.separator) (g.U.Terminal.accepts l.first) g.E.Entry.reads l.limit (l.end - l.counter) l.list l.rest
-    ≡ more_while (g.T.Terminal.accepts l.separator) (g.U.Terminal.accepts l.first) g.E.Entry.reads l.limit (length l.initial.rest) l.initial.list l.initial.rest
+invariant-entries g l = Continues (ReadsWhile (g.T.Terminal.accepts l.separator) (g.U.Terminal.accepts l.first) g.E.Entry.reads l.limit) l.list l.rest l.initial.list l.initial.rest × (length l.rest ≤ l.end - l.counter)

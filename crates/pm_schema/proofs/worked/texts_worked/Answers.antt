@@ -6,7 +6,8 @@ use Rattle.pm_lexer.specs.Pieces.{quotation, single_quotes}
 use Rattle.pm_lexer.specs.Head.{head_of, number_at, named_at, sign_at}
 use Rattle.pm_lexer.specs.Head.{name_at as word_at}
 use Rattle.pm_lexer.specs.Tokens.{tokens_of, tokens_after}
-use Rattle.pm_grammar.specs.Reading.{name_at, list_at, more_at, more_while, clause_at}
+use Rattle.pm_grammar.specs.Reading.{name_at, clause_at}
+use Rattle.pm_grammar.specs.Steps.{list_at, more_at, more_while}
 use Rattle.pm_schema.specs.declared.fault.SchemaBad.TheVariants as bad
 use Rattle.pm_schema.specs.Terminals.{marked, word_named, same_word}
 use Rattle.pm_schema.specs.Rules.{breaches_from}

@@ -1,7 +1,8 @@
 use Rattle.std.proofs.Common.{◌≡◌, length, ◌+◌, ◌-◌, ◌*◌}
 use Rattle.pm_lexer.specs.declared.symbol.Symbol.TheVariants as symbol
 use Rattle.pm_lexer.specs.Symbol.{is}
-use Rattle.pm_grammar.specs.Reading.{token_at, more_at}
+use Rattle.pm_grammar.specs.Reading.{token_at}
+use Rattle.pm_grammar.specs.Steps.{more_at}
 use Rattle.pm_syntax.specs.Reading.{ands_at, part_at, part_peek}
 use Rattle.pm_syntax.proofs.conditions.+cond.Given as goal
 
