@@ -1,4 +1,5 @@
 -- What a list reads is one thing, and its steps give it.
+use Rattle.std.specs.Prelude.{IfOk}
 use Rattle.std.proofs.Common.{◌≡◌, ◌≤◌, ◌<◌, ℕ, zero, suc, Bool, true, false, ◌&&◌, List, [], ◌∷◌, ◌++◌, drop, length, Result, Ok, Err, refl, sym, ◌∙◌, ap, arith, nat_le, if◌then◌else◌}
 use Rattle.pm_lexer.specs.declared.token.Token.{Token}
 use Rattle.pm_grammar.specs.Reading.{Stop, expected, too_deep, too_many, Read, ◌>>=◌, sees, token_at, entry_at, limited_at, place_of}
@@ -7,8 +8,9 @@ use Rattle.pm_grammar.specs.Steps.{more_at, more_while, list_at}
 use Rattle.pm_grammar.specs.Outcome.{Fails, Gives, IsRefused, IsRead}
 use Rattle.pm_grammar.specs.declared.fault.SynBad.{SynBad}
 use Rattle.pm_grammar.specs.declared.fault.SynBad.TheVariants as bad
-use Rattle.pm_grammar.proofs.Phrases.{Phrase, Reader, Nothing}
+use Rattle.pm_grammar.proofs.Phrases.{Phrase, Reader}
 use Rattle.pm_grammar.proofs.Furthers.{NoEntry, Parts, none_seen, no_longer, shorter}
+use Rattle.pm_grammar.proofs.Firsts.{FirstOf, BeginsWith}
 use Rattle.pm_grammar.proofs.Turns.{seen}
 
 -- what is read from later tokens, after more entries, is read from earlier ones
@@ -163,6 +165,11 @@ token_shorter test (u ∷ us) next t e = elim (test u) as (λ b. (let r : Read T
   | false ↦ λ f. absurd (cc f)
 ] e
 
+-- after the separator that was seen
+pub dropped : (test : Token → Bool) (ts : List Token) → sees test ts ≡ true → length (drop 1 ts) < length ts
+dropped test [] e = absurd (cc e)
+dropped test (t ∷ ts) e = omega arith
+
 abbrev pub Keeps : {A : Type 0} → (List Token → Read A) → Type 0
 Keeps {A} p = (ts rest : List Token) (a : A) → p ts ≡ Ok (a, rest) → length rest ≤ length ts
 
@@ -170,8 +177,11 @@ Keeps {A} p = (ts rest : List Token) (a : A) → p ts ≡ Ok (a, rest) → lengt
 pub keeps_of : {A : Type 0} {S : Token → Type 0} {P : Phrase A} {d : ℕ} (p : List Token → Read A) → Reader S P d p → Keeps p
 keeps_of p reads ts rest a e = no_longer ts (a, rest) (rw e at (reads.law ts))
 
-pub shorter_of : {A : Type 0} {P : Phrase A} {d : ℕ} (p : List Token → Read A) → Reader Nothing P d p → NoEntry P [] → (ts rest : List Token) (a : A) → p ts ≡ Ok (a, rest) → length rest < length ts
-shorter_of {A} {P} {d} p reads none ts rest a e = shorter P d none ts (a, rest) (rw e at (reads.law ts))
+pub shorter_of : {A : Type 0} {S : Token → Type 0} {P : Phrase A} {d : ℕ} (p : List Token → Read A) → Reader S P d p → NoEntry P [] → (ts rest : List Token) (a : A) → p ts ≡ Ok (a, rest) → length rest < length ts
+shorter_of {A} {S} {P} {d} p reads none ts rest a e = shorter P d none ts (a, rest) (rw e at (reads.law ts))
+
+pub not_empty : {A : Type 0} (P : Phrase A) (F : Token → Type 0) → BeginsWith P F → NoEntry P []
+not_empty P F begins d g next w heads h = let first : FirstOf F w = begins d g next w h in rw heads at first
 
 entry_read : {A : Type 0} (past : Bool) (peek : List Token → Read Token) (p : List Token → Read A) (ts rest : List Token) (a : A) → entry_at past peek p ts ≡ Ok (a, rest) → p ts ≡ Ok (a, rest)
 entry_read {A} true peek p ts rest a e = absurd (of (peek ts) e)
@@ -226,12 +236,24 @@ list_reads {A} sep peek p limit ts keeps = of (p ts) refl
     of (Err stop) e = no_first ts stop e
     of (Ok x) e = entries ts x.0 x.1 _ e (more_reads sep (token_at sep) peek (λ _. p) limit (further_shortens sep peek p keeps) (length x.1) (x.0 ∷ []) x.1 (omega arith))
 
+first_refused : {A : Type 0} (sep : Token → Bool) (peek : List Token → Read Token) (p : List Token → Read A) (limit : ℕ) (ts : List Token) (x : Read (List A)) (stop : Stop) → ReadsList sep peek p limit ts x → p ts ≡ Err stop → Err stop ≡ x
+first_refused sep peek p limit _ _ stop (no_first ts other e) f = ap Err (stop_same (sym f ∙ e))
+first_refused sep peek p limit _ _ stop (entries ts a rest read e more) f = absurd (cc (sym f ∙ e))
+
+first_read : {A : Type 0} (sep : Token → Bool) (peek : List Token → Read Token) (p : List Token → Read A) (limit : ℕ) (ts : List Token) (x : Read (List A)) (a : A) (rest : List Token)
+    → ReadsList sep peek p limit ts x → p ts ≡ Ok (a, rest) → ReadsFurther sep peek p limit (a ∷ []) rest x
+first_read sep peek p limit _ _ a rest (no_first ts other e) f = absurd (cc (sym f ∙ e))
+first_read sep peek p limit _ _ a rest (entries ts a' rest' read e more) f =
+    let same = both (sym e ∙ f) in
+    rw (same.0, same.1) at more
+
 -- lists and series read one thing each
 pub list_decided : {A : Type 0} (sep : Token → Bool) (peek : List Token → Read Token) (p : List Token → Read A) (limit : ℕ) (ts : List Token) → Keeps p → (read : Read (List A)) × ReadsList sep peek p limit ts read
 list_decided sep peek p limit ts keeps = (list_at sep peek p limit ts, list_reads sep peek p limit ts keeps)
 
-pub list_same : {A : Type 0} (sep : Token → Bool) (peek : List Token → Read Token) (p : List Token → Read A) (limit : ℕ) (ts : List Token) → Keeps p → (x y : Read (List A)) → ReadsList sep peek p limit ts x → ReadsList sep peek p limit ts y → x ≡ y
-list_same sep peek p limit ts keeps x y h k = sym (list_one sep peek p limit ts x keeps h) ∙ list_one sep peek p limit ts y keeps k
+pub list_same : {A : Type 0} (sep : Token → Bool) (peek : List Token → Read Token) (p : List Token → Read A) (limit : ℕ) (ts : List Token) (x y : Read (List A)) → ReadsList sep peek p limit ts x → ReadsList sep peek p limit ts y → x ≡ y
+list_same sep peek p limit _ _ y (no_first ts stop e) h = first_refused sep peek p limit ts y stop h e
+list_same sep peek p limit _ _ y (entries ts a rest read e more) h = one (sees sep) (token_at sep) (λ past _. entry_at past peek p) limit (a ∷ []) rest read y more (first_read sep peek p limit ts y a rest h e)
 
 pub series_decided : {A S : Type 0} (starts : Token → Bool) (separate : List Token → Read S) (peek : List Token → Read Token) (p : S → List Token → Read A) (limit : ℕ) (before : List A) (ts : List Token) → Shortened separate p
     → (read : Read (List A)) × ReadsSeries starts separate peek p limit before ts read
@@ -241,6 +263,16 @@ series_decided starts separate peek p limit before ts shortens =
 pub series_same : {A S : Type 0} (starts : Token → Bool) (separate : List Token → Read S) (peek : List Token → Read Token) (p : S → List Token → Read A) (limit : ℕ) (before : List A) (ts : List Token)
     → (x y : Read (List A)) → ReadsSeries starts separate peek p limit before ts x → ReadsSeries starts separate peek p limit before ts y → x ≡ y
 series_same starts separate peek p limit before ts x y h k = one (sees starts) separate (λ past s. entry_at past peek (p s)) limit before ts x y h k
+
+-- what callers' readers promise of what follows
+pub follows : {X A : Type 0} (result : Result X SynBad) (view : X → A × List Token) (p : List Token → Read A) (ts : List Token) → Keeps p → Gives view result (p ts) → IfOk result (λ x. length (view x).1 ≤ length ts)
+follows (Ok x) view p ts keeps h = keeps ts (view x).1 (view x).0 h
+follows (Err e) view p ts keeps h = tt
+
+pub follows_less : {X A : Type 0} (result : Result X SynBad) (view : X → A × List Token) (p : List Token → Read A) (ts : List Token) → ((ts rest : List Token) (a : A) → p ts ≡ Ok (a, rest) → length rest < length ts)
+    → Gives view result (p ts) → IfOk result (λ x. length (view x).1 < length ts)
+follows_less (Ok x) view p ts shorter h = shorter ts (view x).1 (view x).0 h
+follows_less (Err e) view p ts shorter h = tt
 
 -- what callers' reading functions make of what was read
 module _ {X A : Type 0} (result : Result X SynBad) (view : X → List A × List Token) where

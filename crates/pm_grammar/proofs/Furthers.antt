@@ -32,8 +32,8 @@ pub no_longer : {A : Type 0} {S : Token → Type 0} {P : Phrase A} {d : ℕ} (ts
 no_longer ts x t = rw t.is (omega (arith, length-append t.front x.1))
 
 -- a phrase that is not empty leaves fewer tokens
-pub shorter : {A : Type 0} (P : Phrase A) (d : ℕ) → NoEntry P [] → (ts : List Token) (x : A × List Token) → Taken Nothing P d ts x → length x.1 < length ts
-shorter {A} P d none ts x t = rw t.is (omega (arith, length-append t.front x.1, some t.front (λ e. empty e)))
+pub shorter : {A : Type 0} {S : Token → Type 0} (P : Phrase A) (d : ℕ) → NoEntry P [] → (ts : List Token) (x : A × List Token) → Taken S P d ts x → length x.1 < length ts
+shorter {A} {S} P d none ts x t = rw t.is (omega (arith, length-append t.front x.1, some t.front (λ e. empty e)))
   where
     empty : t.front ≡ [] → ⊥
     empty e =

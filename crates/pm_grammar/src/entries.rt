@@ -1,5 +1,5 @@
 //! Lists of entries with separators between them.
-ghost use Rattle.std.specs.Prelude.{◌≡◌};
+ghost use Rattle.std.specs.Prelude.{◌≡◌, ◌<◌, ◌≤◌, IfOk, length};
 ghost use Rattle.pm_grammar.specs.Reading.{entry_at, limited_at, place_of};
 ghost use Rattle.pm_grammar.specs.Lists.{ReadsFurther, ReadsSeries, ReadsWhile, ReadsList};
 ghost use Rattle.pm_grammar.specs.Outcome.{Gives, IsRead};
@@ -12,7 +12,7 @@ use std::alloc::Global;
 
 /// A kind of entries of a list.
 pub trait Entry {
-    ghost use Rattle.std.specs.Prelude.{◌≡◌, ◌≤◌, List, Ok, length};
+    ghost use Rattle.std.specs.Prelude.{◌≤◌, List, IfOk, length};
     ghost use Rattle.pm_lexer.specs.declared.token.Token.{Token};
     ghost use Rattle.pm_grammar.specs.Reading.{Read};
     ghost use Rattle.pm_grammar.specs.Outcome.{Gives};
@@ -26,16 +26,14 @@ pub trait Entry {
     /// What the first token of an entry past the limit of its list says.
     ghost peeks: { List Token → Read Token };
 
-    /// Reads an entry.
+    /// Reads an entry. No more tokens follow it than there are.
     fn read(alloc: Global, tokens: &[Token]) -> Result<(Self::Value, &[Token]), SynBad>
-        ensures { Gives (λ x. (x.0, x.1.now)) result (reads tokens.now) };
+        ensures read { Gives (λ x. (x.0, x.1.now)) result (reads tokens.now) }
+        ensures follows { IfOk result (λ x. length x.1.now ≤ length tokens.now) };
 
     /// Reads the first token of an entry.
     fn peek(tokens: &[Token]) -> Result<(&Token, &[Token]), SynBad>
         ensures { Gives (λ x. (x.0.now, x.1.now)) result (peeks tokens.now) };
-
-    /// What follows an entry is a part of what was read.
-    ghost shortens: { (tokens rest : List Token) (value : Self.Value) → reads tokens ≡ Ok (value, rest) → length rest ≤ length tokens };
 }
 
 // An entry, or why there is none past the limit.
@@ -44,7 +42,8 @@ fn next_entry<E: Entry>(
     past: bool,
     tokens: &[Token],
 ) -> Result<(E::Value, &[Token]), SynBad>
-    ensures { Gives (λ x. (x.0, x.1.now)) result (entry_at past E.peeks E.reads tokens.now) }
+    ensures read { Gives (λ x. (x.0, x.1.now)) result (entry_at past E.peeks E.reads tokens.now) }
+    ensures follows { IfOk result (λ x. length x.1.now ≤ length tokens.now) }
 {
     if past {
         let (_, _) = E::peek(tokens)?;
@@ -95,7 +94,8 @@ fn limited<E: Entry>(
     past: bool,
     tokens: &[Token],
 ) -> Result<(E::Value, &[Token]), SynBad>
-    ensures { Gives (λ x. (x.0, x.1.now)) result (limited_at past E.reads tokens.now) }
+    ensures read { Gives (λ x. (x.0, x.1.now)) result (limited_at past E.reads tokens.now) }
+    ensures follows { IfOk result (λ x. length x.1.now ≤ length tokens.now) }
 {
     if past {
         return Err(SynBad::TooMany(place(tokens)));
@@ -131,7 +131,7 @@ pub fn further_while<E: Entry, T: Terminal, U: Terminal>(
 
 /// A kind of lists whose entries stand after separators of their own.
 pub trait Series {
-    ghost use Rattle.std.specs.Prelude.{◌≡◌, ◌<◌, Bool, List, Ok, length};
+    ghost use Rattle.std.specs.Prelude.{◌≡◌, ◌<◌, ◌≤◌, Bool, List, IfOk, length};
     ghost use Rattle.pm_lexer.specs.declared.token.Token.{Token};
     ghost use Rattle.pm_grammar.specs.Reading.{Read, sees};
     ghost use Rattle.pm_grammar.specs.Outcome.{Gives};
@@ -158,24 +158,23 @@ pub trait Series {
     fn starts(tokens: &[Token]) -> bool
         ensures { result ≡ sees starts tokens.now };
 
-    /// Reads a separator.
+    /// Reads a separator, which may be empty.
     fn separate(tokens: &[Token]) -> Result<(Self::Separator, &[Token]), SynBad>
-        ensures { Gives (λ x. (x.0, x.1.now)) result (separates tokens.now) };
+        ensures read { Gives (λ x. (x.0, x.1.now)) result (separates tokens.now) }
+        ensures follows { IfOk result (λ x. length x.1.now ≤ length tokens.now) };
 
     /// Reads the first token of an entry.
     fn peek(tokens: &[Token]) -> Result<(&Token, &[Token]), SynBad>
         ensures { Gives (λ x. (x.0.now, x.1.now)) result (peeks tokens.now) };
 
-    /// Reads an entry after a separator.
+    /// Reads an entry after a separator. It is a token at least.
     fn read(
         alloc: Global,
         separator: Self::Separator,
         tokens: &[Token],
     ) -> Result<(Self::Value, &[Token]), SynBad>
-        ensures { Gives (λ x. (x.0, x.1.now)) result (reads separator tokens.now) };
-
-    /// A separator and its entry are a token at least.
-    ghost shortens: { (tokens next rest : List Token) (separator : Self.Separator) (value : Self.Value) → separates tokens ≡ Ok (separator, next) → reads separator next ≡ Ok (value, rest) → length rest < length tokens };
+        ensures read { Gives (λ x. (x.0, x.1.now)) result (reads separator tokens.now) }
+        ensures follows { IfOk result (λ x. length x.1.now < length tokens.now) };
 }
 
 // An entry of a series, or why there is none past the limit.
@@ -185,7 +184,8 @@ fn next_of_series<E: Series>(
     separator: E::Separator,
     tokens: &[Token],
 ) -> Result<(E::Value, &[Token]), SynBad>
-    ensures { Gives (λ x. (x.0, x.1.now)) result (entry_at past E.peeks (E.reads separator) tokens.now) }
+    ensures read { Gives (λ x. (x.0, x.1.now)) result (entry_at past E.peeks (E.reads separator) tokens.now) }
+    ensures follows { IfOk result (λ x. length x.1.now < length tokens.now) }
 {
     if past {
         let (_, _) = E::peek(tokens)?;

@@ -93,7 +93,6 @@ impl Entry for NextColumn {
     ghost use Rattle.pm_lexer.specs.Symbol.{is};
     ghost use Rattle.pm_grammar.specs.Reading.{token_at};
     ghost use Rattle.pm_schema.specs.Reading.{column_at};
-    ghost use Rattle.pm_schema.proofs.Entries.{column_keeps};
 
     type Value = ColumnText;
 
@@ -108,8 +107,6 @@ impl Entry for NextColumn {
     fn peek(tokens: &[Token]) -> Result<(&Token, &[Token]), SynBad> {
         token(Symbol::Name, tokens)
     }
-
-    ghost shortens = { column_keeps };
 }
 
 // A name in a list.
@@ -118,7 +115,6 @@ struct ListedName;
 impl Entry for ListedName {
     ghost use Rattle.pm_grammar.specs.Reading.{token_at, name_at};
     ghost use Rattle.pm_schema.specs.Terminals.{is_name};
-    ghost use Rattle.pm_schema.proofs.Entries.{name_keeps};
 
     type Value = PlacedName;
 
@@ -133,8 +129,6 @@ impl Entry for ListedName {
     fn peek(tokens: &[Token]) -> Result<(&Token, &[Token]), SynBad> {
         token(SchemaTerminal::Name, tokens)
     }
-
-    ghost shortens = { name_keeps };
 }
 
 // name { "," name }
@@ -205,7 +199,6 @@ impl Entry for NextReference {
     ghost use Rattle.pm_grammar.specs.Reading.{token_at};
     ghost use Rattle.pm_schema.specs.Terminals.{is_references};
     ghost use Rattle.pm_schema.specs.Reading.{reference_at};
-    ghost use Rattle.pm_schema.proofs.Entries.{reference_keeps};
 
     type Value = ReferenceText;
 
@@ -220,8 +213,6 @@ impl Entry for NextReference {
     fn peek(tokens: &[Token]) -> Result<(&Token, &[Token]), SynBad> {
         token(SchemaTerminal::References, tokens)
     }
-
-    ghost shortens = { reference_keeps };
 }
 
 // Further references.

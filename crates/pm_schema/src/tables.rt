@@ -39,7 +39,6 @@ impl Series for NextTable {
     ghost use Rattle.pm_schema.specs.declared.terminals.Word.TheVariants as word;
     ghost use Rattle.pm_schema.specs.Terminals.{is_word};
     ghost use Rattle.pm_schema.specs.Reading.{nothing_at, table_at};
-    ghost use Rattle.pm_schema.proofs.Entries.{table_shortens};
 
     type Separator = ();
 
@@ -72,8 +71,6 @@ impl Series for NextTable {
     ) -> Result<(TableText, &[Token]), SynBad> {
         table(alloc, tokens)
     }
-
-    ghost shortens = { table_shortens };
 }
 
 // Further tables.

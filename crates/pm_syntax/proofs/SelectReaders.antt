@@ -85,10 +85,10 @@ link_same = record {
   from = λ d g next ts h. elim h [ inl c ↦ inl c | inr o ↦ elim o [ inl j ↦ inr (inr (inr j)) | inr p ↦ elim p [ inl i ↦ inr (inl i) | inr l ↦ inr (inr (inl l)) ] ] ];
 }
 
-abbrev link_firsts : List Symbol
+abbrev pub link_firsts : List Symbol
 link_firsts = symbol.Comma ∷ symbol.Inner ∷ symbol.Left ∷ symbol.Join ∷ []
 
-links : {ends : List Symbol} (d : ℕ) → Production false link_firsts ends (λ _ _. IsLink) d link_at
+pub links : {ends : List Symbol} (d : ℕ) → Production false link_firsts ends (λ _ _. IsLink) d link_at
 unfolding link_at same_symbol
 links {ends} d =
     same link_same (after symbol.Comma refl (done link.Comma) (after symbol.Inner refl (joined link.Join d)
@@ -134,7 +134,7 @@ Aliased l table d g next = IsGiven (λ alias. Linked l table alias d g next)
 abbrev pub Sourced : Link → Phrase Source
 Sourced l d g = IsSource d g l
 
-sources : (l : Link) (d : ℕ) → Production false (symbol.Name ∷ []) source_ends (Sourced l) d (source_at d l)
+pub sources : (l : Link) (d : ℕ) → Production false (symbol.Name ∷ []) source_ends (Sourced l) d (source_at d l)
 unfolding source_at same_symbol
 sources l d =
     followed {first_ends = []} {P = λ _ _. IsName} {Q = Aliased l} _ (names d)

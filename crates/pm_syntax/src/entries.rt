@@ -15,7 +15,6 @@ use std::alloc::Global;
 impl Entry for ColumnName {
     ghost use Rattle.pm_lexer.specs.declared.symbol.Symbol.TheVariants as symbol;
     ghost use Rattle.pm_syntax.specs.Reading.{column_at};
-    ghost use Rattle.pm_syntax.proofs.Entries.{column_keeps};
 
     type Value = ColumnName;
 
@@ -30,8 +29,6 @@ impl Entry for ColumnName {
     fn peek(tokens: &[Token]) -> Result<(&Token, &[Token]), SynBad> {
         token(Symbol::Name, tokens)
     }
-
-    ghost shortens = { column_keeps };
 }
 
 // [ [ AS ] name ]
@@ -66,7 +63,6 @@ fn item(alloc: Global, tokens: &[Token]) -> Result<(Item, &[Token]), SynBad>
 impl Entry for Item {
     ghost use Rattle.pm_lexer.specs.declared.symbol.Symbol.TheVariants as symbol;
     ghost use Rattle.pm_syntax.specs.Reading.{item_at};
-    ghost use Rattle.pm_syntax.proofs.Entries.{item_keeps};
 
     type Value = Item;
 
@@ -81,8 +77,6 @@ impl Entry for Item {
     fn peek(tokens: &[Token]) -> Result<(&Token, &[Token]), SynBad> {
         token(Symbol::Name, tokens)
     }
-
-    ghost shortens = { item_keeps };
 }
 
 // [ ASC | DESC ]: whether the order is descending
@@ -112,7 +106,6 @@ fn key(alloc: Global, tokens: &[Token]) -> Result<(OrderItem, &[Token]), SynBad>
 impl Entry for OrderItem {
     ghost use Rattle.pm_lexer.specs.declared.symbol.Symbol.TheVariants as symbol;
     ghost use Rattle.pm_syntax.specs.Reading.{key_at};
-    ghost use Rattle.pm_syntax.proofs.Entries.{key_keeps};
 
     type Value = OrderItem;
 
@@ -127,14 +120,11 @@ impl Entry for OrderItem {
     fn peek(tokens: &[Token]) -> Result<(&Token, &[Token]), SynBad> {
         token(Symbol::Name, tokens)
     }
-
-    ghost shortens = { key_keeps };
 }
 
 impl Entry for Literal {
     ghost use Rattle.pm_syntax.specs.Terminals.{begins_literal};
     ghost use Rattle.pm_syntax.specs.Reading.{literal_at};
-    ghost use Rattle.pm_syntax.proofs.Entries.{literal_keeps};
 
     type Value = Literal;
 
@@ -149,6 +139,4 @@ impl Entry for Literal {
     fn peek(tokens: &[Token]) -> Result<(&Token, &[Token]), SynBad> {
         token(LiteralStart, tokens)
     }
-
-    ghost shortens = { literal_keeps };
 }

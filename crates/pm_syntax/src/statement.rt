@@ -118,7 +118,6 @@ impl Series for Source {
     ghost use Rattle.pm_grammar.specs.Reading.{token_at};
     ghost use Rattle.pm_syntax.specs.Terminals.{begins_link};
     ghost use Rattle.pm_syntax.specs.Reading.{link_at, source_at};
-    ghost use Rattle.pm_syntax.proofs.Entries.{source_shortens};
 
     type Separator = Link;
 
@@ -147,8 +146,6 @@ impl Series for Source {
     fn read(alloc: Global, link: Link, tokens: &[Token]) -> Result<(Source, &[Token]), SynBad> {
         source(alloc, link, tokens)
     }
-
-    ghost shortens = { source_shortens };
 }
 
 // Further sources.

@@ -4,7 +4,7 @@ use Rattle.pm_grammar.specs.Reading.{sees}
 use Rattle.pm_grammar.specs.Lists.{ends, no_entry, another}
 use Rattle.pm_grammar.proofs.Furthers.{none_seen}
 use Rattle.pm_grammar.proofs.Turns.{seen}
-use Rattle.pm_grammar.proofs.Decided.{refused_by, while_shortens, both_seen, and_first, and_second}
+use Rattle.pm_grammar.proofs.Decided.{refused_by, dropped, both_seen, and_first, and_second}
 use Rattle.pm_grammar.proofs.entries.further_while.Goals as goal
 
 pub returns-in_default : goal.returns-in_default
@@ -21,7 +21,7 @@ returns-in_err-entry g c =
     let next = c.in-Some.ensures in
     let t = seen (g.T.Terminal.accepts c.args.separator) c.entries.rest.now next.0 in
     let begins : sees (g.U.Terminal.accepts c.args.first) c.in-Some.next.now ≡ true = search (rules, c.if-not-sees.ensures) in
-    let failed = rw (next.1, c.len.ensures) at c.in_err-entry.ensures in
+    let failed = rw (next.1, c.len.ensures) at c.in_err-entry.ensures.read in
     rw (p.1, p.2) (refused_by _ _ _ (λ stop h. c.entries.invariant.0 _ (no_entry c.entries.list c.entries.rest.now t.0 _ stop (both_seen (g.T.Terminal.accepts c.args.separator) (g.U.Terminal.accepts c.args.first) c.entries.rest.now next.0 (rw next.1 at begins)) t.1 h)) failed)
 
 pub entries-preserved : goal.entries-preserved
@@ -29,10 +29,11 @@ entries-preserved g c =
     let next = c.in-Some.ensures in
     let t = seen (g.T.Terminal.accepts c.args.separator) c.entries.rest.now next.0 in
     let begins : sees (g.U.Terminal.accepts c.args.first) c.in-Some.next.now ≡ true = search (rules, c.if-not-sees.ensures) in
-    let read = rw (next.1, c.len.ensures) at c.in_ok-entry.ensures in
-    let less = while_shortens (g.T.Terminal.accepts c.args.separator) g.E.Entry.reads g.met.E.Entry.shortens (nat_le c.args.limit (length c.entries.list)) c.entries.rest.now _ _ t.0 _ t.1 read in
+    let read = rw (next.1, c.len.ensures) at c.in_ok-entry.ensures.read in
+    let less = dropped (g.T.Terminal.accepts c.args.separator) c.entries.rest.now next.0 in
+    let follows = rw next.1 at c.in_ok-entry.ensures.follows in
     let within = c.entries.invariant.1 in
-    rw c.in_ok-push.ensures.ok ((λ all more. c.entries.invariant.0 all (another c.entries.list c.entries.rest.now t.0 _ _ _ all (both_seen (g.T.Terminal.accepts c.args.separator) (g.U.Terminal.accepts c.args.first) c.entries.rest.now next.0 (rw next.1 at begins)) t.1 read more)), omega (arith, less, within))
+    rw c.in_ok-push.ensures.ok ((λ all more. c.entries.invariant.0 all (another c.entries.list c.entries.rest.now t.0 _ _ _ all (both_seen (g.T.Terminal.accepts c.args.separator) (g.U.Terminal.accepts c.args.first) c.entries.rest.now next.0 (rw next.1 at begins)) t.1 read more)), omega (arith, less, follows, within))
 
 pub returns : goal.returns
 returns g c =

@@ -3,7 +3,7 @@ use Rattle.pm_lexer.specs.Symbol.{is}
 use Rattle.pm_values.specs.declared.limits.TheConstants.{MOST_COLUMNS}
 use Rattle.pm_grammar.proofs.Decided.{gives_while}
 use Rattle.pm_schema.specs.Reading.{column_at}
-use Rattle.pm_schema.proofs.Entries.{column_keeps}
+use Rattle.pm_schema.proofs.Kept.{column_keeps}
 use Rattle.pm_schema.proofs.bodies.more_columns.Goals as goal
 
 pub returns : goal.returns

@@ -5,7 +5,7 @@ use Rattle.pm_grammar.specs.Reading.{token_at}
 use Rattle.pm_grammar.proofs.Decided.{gives_further}
 use Rattle.pm_schema.specs.Terminals.{is_references}
 use Rattle.pm_schema.specs.Reading.{reference_at}
-use Rattle.pm_schema.proofs.Entries.{reference_keeps}
+use Rattle.pm_schema.proofs.Kept.{reference_keeps}
 use Rattle.pm_schema.proofs.bodies.more_references.Goals as goal
 
 pub returns : goal.returns

@@ -4,7 +4,7 @@ use Rattle.pm_values.specs.declared.limits.TheConstants.{MOST_KEY_COLUMNS}
 use Rattle.pm_grammar.specs.Reading.{token_at, name_at}
 use Rattle.pm_grammar.proofs.Decided.{gives_list}
 use Rattle.pm_schema.specs.Terminals.{is_name}
-use Rattle.pm_schema.proofs.Entries.{name_keeps}
+use Rattle.pm_schema.proofs.Kept.{name_keeps}
 use Rattle.pm_schema.proofs.bodies.name_list.Goals as goal
 
 pub returns : goal.returns

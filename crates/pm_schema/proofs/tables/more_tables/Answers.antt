@@ -4,7 +4,7 @@ use Rattle.pm_schema.specs.declared.terminals.Word.TheVariants as word
 use Rattle.pm_schema.specs.declared.tables.TheConstants.{MOST_TABLES}
 use Rattle.pm_schema.specs.Terminals.{is_word}
 use Rattle.pm_schema.specs.Reading.{nothing_at, table_at}
-use Rattle.pm_schema.proofs.Entries.{table_shortens}
+use Rattle.pm_schema.proofs.Kept.{table_shortens}
 use Rattle.pm_schema.proofs.tables.more_tables.Goals as goal
 
 pub returns : goal.returns

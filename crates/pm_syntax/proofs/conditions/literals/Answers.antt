@@ -4,7 +4,7 @@ use Rattle.pm_grammar.specs.Reading.{token_at}
 use Rattle.pm_grammar.proofs.Decided.{gives_list}
 use Rattle.pm_syntax.specs.Terminals.{begins_literal}
 use Rattle.pm_syntax.specs.Reading.{literal_at, literals_at}
-use Rattle.pm_syntax.proofs.Entries.{literal_keeps}
+use Rattle.pm_syntax.proofs.Kept.{literal_keeps}
 use Rattle.pm_syntax.proofs.conditions.literals.Goals as goal
 
 pub returns : goal.returns

@@ -3,7 +3,7 @@ use Rattle.pm_lexer.specs.Symbol.{is}
 use Rattle.pm_grammar.specs.Reading.{token_at}
 use Rattle.pm_grammar.proofs.Decided.{gives_list}
 use Rattle.pm_syntax.specs.Reading.{item_at}
-use Rattle.pm_syntax.proofs.Entries.{item_keeps}
+use Rattle.pm_syntax.proofs.Kept.{item_keeps}
 use Rattle.pm_syntax.proofs.statement.item_list.Goals as goal
 
 pub returns : goal.returns

@@ -4,7 +4,7 @@ use Rattle.pm_grammar.specs.Reading.{token_at}
 use Rattle.pm_grammar.proofs.Decided.{gives_series}
 use Rattle.pm_syntax.specs.Terminals.{begins_link}
 use Rattle.pm_syntax.specs.Reading.{link_at, source_at}
-use Rattle.pm_syntax.proofs.Entries.{source_shortens}
+use Rattle.pm_syntax.proofs.Kept.{source_shortens}
 use Rattle.pm_syntax.proofs.statement.more_sources.Goals as goal
 
 pub returns : goal.returns
