@@ -10,7 +10,6 @@ use Rattle.pm_grammar.specs.declared.fault.SynBad.{SynBad}
 use Rattle.pm_grammar.specs.declared.fault.SynBad.TheVariants as bad
 use Rattle.pm_grammar.proofs.Phrases.{Phrase, Reader}
 use Rattle.pm_grammar.proofs.Furthers.{NoEntry, Parts, none_seen, no_longer, shorter}
-use Rattle.pm_grammar.proofs.Firsts.{FirstOf, BeginsWith}
 use Rattle.pm_grammar.proofs.Turns.{seen}
 
 -- what is read from later tokens, after more entries, is read from earlier ones
@@ -179,9 +178,6 @@ keeps_of p reads ts rest a e = no_longer ts (a, rest) (rw e at (reads.law ts))
 
 pub shorter_of : {A : Type 0} {S : Token → Type 0} {P : Phrase A} {d : ℕ} (p : List Token → Read A) → Reader S P d p → NoEntry P [] → (ts rest : List Token) (a : A) → p ts ≡ Ok (a, rest) → length rest < length ts
 shorter_of {A} {S} {P} {d} p reads none ts rest a e = shorter P d none ts (a, rest) (rw e at (reads.law ts))
-
-pub not_empty : {A : Type 0} (P : Phrase A) (F : Token → Type 0) → BeginsWith P F → NoEntry P []
-not_empty P F begins d g next w heads h = let first : FirstOf F w = begins d g next w h in rw heads at first
 
 entry_read : {A : Type 0} (past : Bool) (peek : List Token → Read Token) (p : List Token → Read A) (ts rest : List Token) (a : A) → entry_at past peek p ts ≡ Ok (a, rest) → p ts ≡ Ok (a, rest)
 entry_read {A} true peek p ts rest a e = absurd (of (peek ts) e)

@@ -3,8 +3,10 @@ use Rattle.std.proofs.Common.{◌≡◌, ◌<◌, List, [], ◌∷◌, length, O
 use Rattle.pm_lexer.specs.declared.token.Token.{Token}
 use Rattle.pm_lexer.specs.declared.symbol.Symbol.TheVariants as symbol
 use Rattle.pm_grammar.proofs.Sets.{AnyOf}
+use Rattle.pm_grammar.proofs.Firsts.{FirstOf}
+use Rattle.pm_grammar.proofs.Furthers.{NoEntry}
 use Rattle.pm_grammar.proofs.Productions.{begins_of}
-use Rattle.pm_grammar.proofs.Decided.{Keeps, Shortened, keeps_of, shorter_of, not_empty, parts_shorten}
+use Rattle.pm_grammar.proofs.Decided.{Keeps, Shortened, keeps_of, shorter_of, parts_shorten}
 use Rattle.pm_syntax.specs.declared.tree.Link.{Link}
 use Rattle.pm_syntax.specs.declared.tree.Source.{Source}
 use Rattle.pm_syntax.specs.Reading.{column_at, literal_at, item_at, link_at, source_at, key_at}
@@ -27,8 +29,11 @@ pub link_keeps : Keeps link_at
 link_keeps = keeps_of link_at (links {ends = []} 0).reads
 
 -- a source is not empty, nor is what joins one
+no_source : (l : Link) → NoEntry (Sourced l) []
+no_source l d g next w heads h = let first : FirstOf (AnyOf (symbol.Name ∷ [])) w = begins_of (symbol.Name ∷ []) (sources l 32).leads d g next w h in rw heads at first
+
 pub source_shorter : (l : Link) (ts rest : List Token) (source : Source) → source_at 32 l ts ≡ Ok (source, rest) → length rest < length ts
-source_shorter l = shorter_of (source_at 32 l) (sources l 32).reads (not_empty (Sourced l) (AnyOf (symbol.Name ∷ [])) (begins_of (symbol.Name ∷ []) (sources l 32).leads))
+source_shorter l = shorter_of {P = Sourced l} (source_at 32 l) (sources l 32).reads (no_source l)
 
 pub source_shortens : Shortened link_at (source_at 32)
 source_shortens = parts_shorten (source_parts 32)

@@ -1,4 +1,4 @@
-use Rattle.std.proofs.Common.{rules, arith, length, nat_le}
+use Rattle.std.proofs.Common.{rules, arith}
 use Rattle.std.proofs.lemmas.Result.{err_from_is_err_and}
 use Rattle.pm_grammar.specs.Lists.{ends, no_separator, no_entry, another}
 use Rattle.pm_grammar.proofs.Furthers.{none_seen}
