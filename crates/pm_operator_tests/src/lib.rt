@@ -6,6 +6,8 @@
 #[cfg(test)]
 mod blocks;
 #[cfg(test)]
+mod exec;
+#[cfg(test)]
 mod index;
 #[cfg(test)]
 mod joins;
