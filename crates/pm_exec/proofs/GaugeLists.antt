@@ -12,7 +12,7 @@ use Rattle.pm_work.specs.Changes.{gauge_after, seek_gauge_after}
 use Rattle.pm_work.specs.Fits.{IsSound}
 use Rattle.pm_work.proofs.Flags.{merges_ascend}
 use Rattle.pm_work.proofs.Changes.{gauges_step}
-use Rattle.pm_exec.specs.declared.taken.Taken.{Taken}
+use Rattle.pm_flows.specs.declared.taken.Taken.{Taken}
 use Rattle.pm_exec.specs.Noted.{more_at, gauge_with, gauges_with}
 use Rattle.pm_exec.proofs.Notes.{NodeNoted, SeekNoted, AllNoted}
 

@@ -27,19 +27,19 @@ use Rattle.pm_work.specs.Moments.{Counts, counts_at, gauge_of, seek_gauge, gauge
 use Rattle.pm_work.specs.Fits.{Fits, IsSound}
 use Rattle.pm_work.proofs.Counting.{events_each}
 use Rattle.pm_work.proofs.Joins.{length-filter_take, joined_take_le}
-use Rattle.pm_exec.specs.declared.taken.Taken.{Taken}
-use Rattle.pm_exec.specs.Coming.{Coming, event_of}
-use Rattle.pm_exec.specs.Flow.{Flow, TakesOne}
-use Rattle.pm_exec.specs.Plan.{coming}
+use Rattle.pm_flows.specs.declared.taken.Taken.{Taken}
+use Rattle.pm_flows.specs.Coming.{Coming, event_of}
+use Rattle.pm_flows.specs.Flow.{Flow, TakesOne}
+use Rattle.pm_flows.specs.Plan.{coming}
 use Rattle.pm_exec.specs.Noted.{gauges_with}
 use Rattle.pm_exec.specs.Gauged.{IsAmong, IsCounted, first_gauge}
 use Rattle.pm_exec.specs.Ran.{Ran}
 use Rattle.pm_exec.specs.Running.{IsRootOf}
-use Rattle.pm_exec.proofs.Comings.{event-coming}
+use Rattle.pm_flows.proofs.Comings.{event-coming}
 use Rattle.pm_exec.proofs.Noting.{Noted}
 use Rattle.pm_exec.proofs.TreeNoting.{coming_noted}
 use Rattle.pm_exec.proofs.GaugeLists.{gauges_next}
-use Rattle.pm_exec.proofs.NodeLists.{All-list_at, list_at-same, map-list_at}
+use Rattle.pm_flows.proofs.NodeLists.{All-list_at, list_at-same, map-list_at}
 use Rattle.pm_exec.proofs.Works.{events_few}
 
 -- ---- before the first event

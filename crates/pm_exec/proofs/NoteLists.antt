@@ -6,10 +6,10 @@ use Rattle.std.proofs.lemmas.Bool.Decides.{eqb_tells}
 use Rattle.std.proofs.lemmas.List.{take-append-le, take_all}
 use Rattle.std.proofs.lemmas.List.Elements.{All-get_or}
 use Rattle.pm_plan.specs.declared.gauge.Gauge.{Gauge}
-use Rattle.pm_exec.specs.declared.taken.Taken.{Taken}
+use Rattle.pm_flows.specs.declared.taken.Taken.{Taken}
 use Rattle.pm_exec.specs.Noted.{gauge_with, gauges_with}
 use Rattle.pm_exec.specs.Gauged.{IsAmong, IsCounted}
-use Rattle.pm_exec.proofs.Streams.{neq-eqb}
+use Rattle.pm_flows.proofs.Streams.{neq-eqb}
 
 abbrev pub zeros : Gauge
 zeros = record { handed = 0; settled = 0; worst = 0; size = 0 }

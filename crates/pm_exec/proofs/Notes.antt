@@ -10,10 +10,10 @@ use Rattle.pm_work.specs.Moments.{Counts, worst_at}
 use Rattle.pm_work.specs.Changes.{settled_by, seek_settled_by, worst_after}
 use Rattle.pm_work.proofs.EventLists.{rows_at-append}
 use Rattle.pm_work.proofs.EventLaws.{size_pos}
-use Rattle.pm_exec.specs.declared.taken.Taken.{Taken}
-use Rattle.pm_exec.specs.Coming.{Coming, event_of, after}
+use Rattle.pm_flows.specs.declared.taken.Taken.{Taken}
+use Rattle.pm_flows.specs.Coming.{Coming, event_of, after}
 use Rattle.pm_exec.specs.Noted.{more_at, worst_with_it}
-use Rattle.pm_exec.proofs.Streams.{neq-eqb}
+use Rattle.pm_flows.proofs.Streams.{neq-eqb}
 
 -- ---- the facts
 

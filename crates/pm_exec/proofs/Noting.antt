@@ -21,11 +21,11 @@ use Rattle.pm_work.specs.Changes.{settled_by_row, settled_by_sought, last_row, w
 use Rattle.pm_work.proofs.EventLists.{Within, Within-first, Only-events_of, rows_at-other, rows_at-outside}
 use Rattle.pm_work.proofs.Cuts.{front_of}
 use Rattle.pm_work.proofs.EventLaws.{size_pos}
-use Rattle.pm_exec.specs.declared.taken.Taken.{Taken}
-use Rattle.pm_exec.specs.Coming.{Coming, event_of, taken_by, taken_read, rows_by, read, rows_in, after}
-use Rattle.pm_exec.specs.Sought.{kept_row, seek_rows, looked_up}
-use Rattle.pm_exec.proofs.Streams.{neq-eqb}
-use Rattle.pm_exec.proofs.Comings.{event-rows_by, rows_in-at}
+use Rattle.pm_flows.specs.declared.taken.Taken.{Taken}
+use Rattle.pm_flows.specs.Coming.{Coming, event_of, taken_by, taken_read, rows_by, read, rows_in, after}
+use Rattle.pm_flows.specs.Sought.{kept_row, seek_rows, looked_up}
+use Rattle.pm_flows.proofs.Streams.{neq-eqb}
+use Rattle.pm_flows.proofs.Comings.{event-rows_by, rows_in-at}
 use Rattle.pm_exec.proofs.Notes.{AllNoted, apart-noted, FromBelow, cut-append, cut-after, rows_of, rows_of-append, history, FromHistory, cut-history}
 
 -- an event of a tree at these counts

@@ -13,14 +13,14 @@ use Rattle.pm_work.specs.Moments.{Counts}
 use Rattle.pm_work.specs.Changes.{settled_by_row}
 use Rattle.pm_work.proofs.EventLists.{Within}
 use Rattle.pm_work.proofs.EventLaws.{Within-events, rows_at-events}
-use Rattle.pm_exec.specs.Coming.{Coming, event_of, taken_read, rows_by, read, rows_in, after}
-use Rattle.pm_exec.specs.Hashed.{entered}
-use Rattle.pm_exec.specs.Plan.{coming, taken_in}
-use Rattle.pm_exec.proofs.Comings.{event-coming}
+use Rattle.pm_flows.specs.Coming.{Coming, event_of, taken_read, rows_by, read, rows_in, after}
+use Rattle.pm_flows.specs.Hashed.{entered}
+use Rattle.pm_flows.specs.Plan.{coming, taken_in}
+use Rattle.pm_flows.proofs.Comings.{event-coming}
 use Rattle.pm_exec.proofs.Notes.{cut-append, rows_of, rows_of-append, history}
 use Rattle.pm_work.specs.Facts.{MergesAscend}
 use Rattle.pm_exec.proofs.Noting.{Noted, Agree, row_taken, own_noted, streamed_noted, taken_in_noted, right_noted, left_noted, sought_noted}
-use Rattle.pm_exec.proofs.MergeSides.{ascend_rows}
+use Rattle.pm_flows.proofs.MergeSides.{ascend_rows}
 use Rattle.pm_exec.proofs.MergeNoting.{merge_noted}
 
 taken_in-history : (op : Unary) (n : ℕ) (rows : List Row) (es : List Coming) → taken_in n (settled_by_row op) rows es

@@ -34,7 +34,7 @@ use Rattle.pm_work.proofs.Narrow.{SumsAreNarrow, narrow}
 use Rattle.pm_work.proofs.RowKinds.{FitsKinds, cell_kind, output_fits}
 use Rattle.pm_work.proofs.Summable.{summable_output}
 use Rattle.pm_blocks.specs.Limits.{IsShort, IsSummable}
-use Rattle.pm_exec.specs.Plan.{GroupsReadFew, reads_few}
+use Rattle.pm_flows.specs.Plan.{GroupsReadFew, reads_few}
 
 pub sound_of : (plan : Plan) (db : Db) → Fits plan db → All IsRelation db → IsSound db (tree_of plan.nodes)
 sound_of plan db fits tables = record { tables = tables; operators = fits.valid.operators; references = fits.references }

@@ -7,7 +7,7 @@ use Rattle.pm_plan.specs.Rows.{Db, table_rows}
 use Rattle.pm_plan.specs.Joins.{right_columns, worst}
 use Rattle.pm_plan.specs.Tree.{Group}
 use Rattle.pm_work.specs.Moments.{settled_over}
-use Rattle.pm_exec.specs.declared.taken.Taken.{Taken}
+use Rattle.pm_flows.specs.declared.taken.Taken.{Taken}
 
 -- the gauge of a node before the first event
 abbrev pub first_gauge : Db → Node → Gauge

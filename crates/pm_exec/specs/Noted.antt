@@ -1,7 +1,7 @@
 -- how the gauges of the nodes change by an event that a step took
 use Rattle.std.specs.Prelude.{ℕ, ◌+◌, ◌==◌, if◌then◌else◌, List, [], ◌∷◌, max}
 use Rattle.pm_plan.specs.declared.gauge.Gauge.{Gauge}
-use Rattle.pm_exec.specs.declared.taken.Taken.{Taken}
+use Rattle.pm_flows.specs.declared.taken.Taken.{Taken}
 
 -- the rows that it settles at node m, and the greatest multiplicity there after it
 abbrev pub more_at : ℕ → Taken → ℕ

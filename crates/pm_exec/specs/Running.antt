@@ -4,8 +4,8 @@ use Rattle.pm_values.specs.Table.{IsRelation}
 use Rattle.pm_plan.specs.Preorder.{tree_of}
 use Rattle.pm_work.specs.Fits.{Fits}
 use Rattle.pm_work.specs.Moments.{gauges_at}
-use Rattle.pm_exec.specs.Flow.{Flow}
-use Rattle.pm_exec.specs.Plan.{coming, ends_free}
+use Rattle.pm_flows.specs.Flow.{Flow}
+use Rattle.pm_flows.specs.Plan.{coming, ends_free}
 use Rattle.pm_exec.specs.Ran.{Ran, run_events, HasRootRow, last_row}
 use Rattle.pm_exec.specs.declared.exec.Exec.TheInside.{Inside}
 

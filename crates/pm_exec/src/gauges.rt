@@ -6,11 +6,10 @@ ghost use Rattle.pm_plan.specs.Rows.{table_rows};
 ghost use Rattle.pm_work.specs.Fits.{Fits};
 ghost use Rattle.pm_work.specs.Moments.{gauges_at};
 ghost use Rattle.pm_exec.specs.Gauged.{IsAmong, IsCounted, first_gauge};
-ghost use Rattle.pm_exec.specs.Indexes.{IsReadable, index_of};
+ghost use Rattle.pm_flows.specs.Indexes.{IsReadable, index_of};
 ghost use Rattle.pm_exec.specs.Noted.{gauges_with};
 
-use crate::indexes::Indexes;
-use crate::taken::{Taken, rows_if};
+use pm_flows::{Indexes, Taken, rows_if};
 use pm_index::Index;
 use pm_plan::{Gauge, Node, Plan};
 use pm_values::Db;

@@ -5,8 +5,8 @@ ghost use Rattle.pm_plan.specs.Tree.{Tree};
 ghost use Rattle.pm_work.specs.Events.{counts, events};
 ghost use Rattle.pm_work.specs.Moments.{gauges_of};
 ghost use Rattle.pm_work.specs.Fits.{IsSound};
-ghost use Rattle.pm_exec.specs.Coming.{Coming, event_of};
-ghost use Rattle.pm_exec.specs.Plan.{coming};
+ghost use Rattle.pm_flows.specs.Coming.{Coming, event_of};
+ghost use Rattle.pm_flows.specs.Plan.{coming};
 ghost use Rattle.pm_exec.specs.Noted.{gauges_with};
 
 /// The events that the iterators of a plan have to come are those of the plan; and what each of them says of the node that reads

@@ -1,10 +1,13 @@
-//! Tests of the parts of operators, each in the module named after its crate. They make public calls alone, with ample memory.
+//! Tests of the parts of operators and of runs, each in the module named after its crate. They make public calls alone, with ample
+//! memory.
 //!
 //! A crate that has tests of its own is proved a second time with them. Here only the tests are proved.
 #![tactic(auto)]
 
 #[cfg(test)]
 mod blocks;
+#[cfg(test)]
+mod exec;
 #[cfg(test)]
 mod index;
 #[cfg(test)]

@@ -12,7 +12,8 @@ ghost use Rattle.pm_run.specs.ExplainText.{bound_lines, explain_text};
 
 use pm_bounds::{bounds_all, whole};
 use pm_estim::{Pipe, Pipes};
-use pm_exec::{first_gauges, key_columns, seek_indexes};
+use pm_exec::first_gauges;
+use pm_flows::{key_columns, seek_indexes};
 use pm_io::{Sink, WriteFault};
 use pm_lines::{LineBad, put_bound, put_first, put_plan};
 use pm_plan::{Bound, Gauge, Plan};

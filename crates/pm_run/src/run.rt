@@ -6,14 +6,15 @@ ghost use Rattle.pm_plan.specs.Preorder.{tree_of};
 ghost use Rattle.pm_work.specs.Fits.{Fits};
 ghost use Rattle.pm_work.specs.Moments.{counts_at, gauge_in, gauges_at};
 ghost use Rattle.pm_bounds.specs.Bounds.{whole_of};
-ghost use Rattle.pm_exec.specs.Indexes.{index_of};
-ghost use Rattle.pm_exec.specs.KeyColumns.{join_columns};
+ghost use Rattle.pm_flows.specs.Indexes.{index_of};
+ghost use Rattle.pm_flows.specs.KeyColumns.{join_columns};
 ghost use Rattle.pm_run.specs.Text.{event_lines, head_text, end_text, run_text};
 ghost use Rattle.pm_run.specs.RunState.{CanTurn, whole_work_in, turn_text};
 
 use crate::meter::Meter;
 use crate::turn::{Turn, take_turn, write_head};
-use pm_exec::{Exec, Indexes, KeyColumns, key_columns, runs_fit, seek_indexes};
+use pm_exec::{Exec, runs_fit};
+use pm_flows::{Indexes, KeyColumns, key_columns, seek_indexes};
 use pm_io::Sink;
 use pm_lines::LineBad;
 use pm_plan::{Plan, Whole};

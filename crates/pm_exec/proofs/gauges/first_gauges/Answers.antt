@@ -1,8 +1,8 @@
 use Rattle.std.proofs.Common.{map, ap, ◌∙◌}
 use Rattle.std.proofs.lemmas.List.{take_all}
 use Rattle.pm_exec.specs.Gauged.{first_gauge}
-use Rattle.pm_exec.specs.Indexes.{IsReadable, index_of}
-use Rattle.pm_exec.proofs.NodeLists.{All-at, all_readable, mapped-at}
+use Rattle.pm_flows.specs.Indexes.{IsReadable, index_of}
+use Rattle.pm_flows.proofs.NodeLists.{All-at, all_readable, mapped-at}
 use Rattle.pm_exec.proofs.Gauging.{firsts_are}
 use Rattle.pm_exec.proofs.gauges.first_gauges.Goals as goal
 

@@ -1,4 +1,4 @@
-use Rattle.pm_exec.proofs.Comings.{event-coming}
+use Rattle.pm_flows.proofs.Comings.{event-coming}
 use Rattle.pm_exec.proofs.Gauging.{gauges_noted}
 use Rattle.pm_exec.proofs.laws.notes_change_gauges.Goals as goal
 

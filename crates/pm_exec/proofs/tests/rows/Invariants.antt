@@ -1,6 +1,0 @@
-use Rattle.std.proofs.Common.{◌≡◌, [], ◌∷◌, map, take}
-use Rattle.pm_values.specs.declared.value.Value.TheVariants.{Int}
-use Rattle.pm_exec.proofs.tests.rows.Given as goal
-
-abbrev pub invariant-loop-n : goal.invariant-loop-n
-invariant-loop-n l = l.rows ≡ map (λ n. Int n ∷ []) (take l.n-index l.numbers)

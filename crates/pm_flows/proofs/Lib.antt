@@ -1,0 +1,12 @@
+pub mod Kept
+pub mod Scans
+pub mod Streams
+pub mod Builds
+pub mod Sides
+pub mod Mergings
+pub mod MergeSides
+pub mod Lookups
+pub mod Comings
+pub mod Begins
+pub mod Joins
+pub mod NodeLists

@@ -1,0 +1,17 @@
+pub mod Coming
+pub mod Hashed
+pub mod Held
+pub mod Flow
+pub mod ScanFlow
+pub mod SideFlow
+pub mod BuildFlow
+pub mod Merged
+pub mod MergeSideFlow
+pub mod Sought
+pub mod LookupFlow
+pub mod KeyColumns
+pub mod Growing
+pub mod Indexes
+pub mod Plan
+pub mod Filtered
+pub mod Free

@@ -1,0 +1,9 @@
+pub mod FilterFlow
+pub mod ProjectFlow
+pub mod HashFlow
+pub mod MergeFlow
+pub mod IndexFlow
+pub mod GroupFlow
+pub mod SortFlow
+pub mod InnerSide
+pub mod IterFlow
