@@ -1,5 +1,6 @@
 pub mod Text
 pub mod Pace
+pub mod IsBounding
 pub mod IsMeter
 pub mod RunState
 pub mod IsRun

@@ -2,6 +2,7 @@
 //! and the text of what is known of the plan before it runs.
 #![tactic(auto)]
 
+mod bounding;
 mod explain;
 mod meter;
 mod row;

@@ -2,9 +2,12 @@ use Rattle.std.proofs.Common.{◌≡◌, ◌+◌, ◌≤◌, true, false, length
 use Rattle.std.proofs.lemmas.Result.{on_err_weaker}
 use Rattle.std.specs.Prelude.{Some, IfSome}
 use Rattle.pm_io.specs.Sink.{GainsPart}
+use Rattle.pm_plan.specs.Preorder.{tree_of}
+use Rattle.pm_work.specs.Moments.{gauges_at}
 use Rattle.pm_lines.specs.Progress.{progress_line}
 use Rattle.pm_exec.specs.Ran.{whole_work_of}
 use Rattle.pm_run.specs.Text.{is_due}
+use Rattle.pm_run.specs.IsBounding.{IsBounding}
 use Rattle.pm_run.specs.Pace.{IsQuiet}
 use Rattle.pm_run.specs.declared.meter.Meter.{Meter}
 use Rattle.pm_run.proofs.Paces.{due-same, nothing-due, line-due}
@@ -46,8 +49,8 @@ returns-then-is_due-clause-after g c =
     let quiet : IsQuiet (Some c.in-Some.every) (whole_work_of e) (e.taken + 1) c.next_look-self.result =
     subst (λ k. IsQuiet (Some c.in-Some.every) (whole_work_of e) (k + 1) c.next_look-self.result) m.moment.work (c.next_look-self.ensures (whole_work_of e) m.moment.below) in
     record {
-      pipes = ap (λ (x : Meter). x.pipes) m.bounds ∙ c.requires.before.pipes;
-      room = m.room ∙ ap (λ p. length p.nodes) c.requires.plan;
-      every = subst (λ o. IfSome o (λ n. 1 ≤ n)) (sym (ap (λ (x : Meter). x.every) m.bounds)) c.requires.before.every;
-      quiet = subst (λ o. IsQuiet o (whole_work_of e) (e.taken + 1) c.next_look-self.result) (sym (ap (λ (x : Meter). x.every) m.bounds ∙ c.in-Some.is)) quiet;
+      pipes = ap (λ (x : Meter). x.pipes) m.same ∙ c.requires.before.pipes;
+      bounding = subst (λ p. IsBounding p (gauges_at e.db (tree_of p.nodes) e.taken) c.shown-shown.new.self.bounding) c.requires.plan m.bounding;
+      every = subst (λ o. IfSome o (λ n. 1 ≤ n)) (sym (ap (λ (x : Meter). x.every) m.same)) c.requires.before.every;
+      quiet = subst (λ o. IsQuiet o (whole_work_of e) (e.taken + 1) c.next_look-self.result) (sym (ap (λ (x : Meter). x.every) m.same ∙ c.in-Some.is)) quiet;
     }
