@@ -1,5 +1,5 @@
 //! Runs by turns, with ample memory, compared with whole runs and with texts that an independent model of the definitions gave.
-ghost use Rattle.std.specs.Prelude.{◌≡◌, ◌≤◌, IfOk, IfSome, Ok};
+ghost use Rattle.std.specs.Prelude.{◌≡◌, ◌≤◌, IfOk, IfSome, Ok, true};
 ghost use Rattle.pm_run.specs.RunState.{CanTurn};
 ghost use Rattle.pm_commands.specs.Certified.{IsReady};
 
@@ -189,6 +189,137 @@ fn turns_write_what_whole_runs_write(rt: HostRuntime) -> Result<(), Fail> {
             let turned = written(&rt, by_turns(&rt, alloc, &prepared, every));
             let whole = written(&rt, at_once(alloc, &prepared, every));
             assert_eq!(rt; turned.bytes(), whole.bytes(), "{query}");
+        }
+    }
+    Ok(())
+}
+
+/// Where a run stands: its events, the rows that the root handed out, and the work done with the bounds of the whole work.
+type Stand = (u128, u128, Whole);
+
+/// Where a run stands after so many turns, and what they wrote.
+fn after_turns(
+    alloc: Global,
+    prepared: &Prepared,
+    every: Option<u64>,
+    count: u32,
+) -> Result<(Stand, MemSink), LineBad>
+    requires ready { IsReady prepared.now }
+    requires every { IfSome every (λ n. 1 ≤ n) }
+{
+    let (plan, db) = (&prepared.plan, &prepared.request.db);
+    let keys = key_columns(alloc, plan)?;
+    let indexes = seek_indexes(alloc, plan, db, &keys)?;
+    let mut run = Run::begin(alloc, plan, db, &keys, &indexes, every)?;
+    let mut sink = MemSink::new(alloc, 1_000_000)?;
+    run.head(&mut sink)?;
+    turns(&mut run, &mut sink, count)?;
+    let stand = (run.events(), run.rows(), run.whole());
+    Ok((stand, sink))
+}
+
+#[test]
+fn runs_tell_where_they_stand(rt: HostRuntime) -> Result<(), Fail> {
+    let alloc: Global = rt.alloc();
+    for (join, count, rows, lo, hi) in [
+        ("merge", 1, 0, 7, 15),
+        ("merge", 7, 1, 11, 15),
+        ("merge", 20, 3, 13, 13),
+        ("hash", 1, 0, 7, 15),
+        ("hash", 7, 1, 11, 15),
+        ("index", 1, 0, 5, 16),
+        ("index", 7, 1, 10, 16),
+    ] {
+        let mut files = files_of(alloc, SCHEMA, ORDERS, &FILES)?;
+        let prepared = planned(&rt, alloc, &mut files, join)?;
+        let work = u128::from(count.min(13u32));
+        for every in [None, Some(1), Some(5)] {
+            match after_turns(alloc, &prepared, every, count) {
+                Ok((stand, _)) => {
+                    assert_eq!(rt; stand, (work, rows, Whole { work, lo, hi }), "{join}");
+                }
+                Err(fault) => panic!(rt; "{fault:?}"),
+            }
+        }
+    }
+    Ok(())
+}
+
+/// So many texts with a comma between them, each a number from 0 between these pieces.
+fn listed(alloc: Global, before: &str, after: &str, count: u32) -> Result<String, AllocError> {
+    let mut text = String::new(alloc);
+    for number in 0..count {
+        if number > 0 {
+            text.push_str(",")?;
+        }
+        text.push_str(format!(in alloc; "{before}{number}{after}")?.as_str())?;
+    }
+    Ok(text)
+}
+
+#[test]
+fn a_row_has_64_columns(rt: HostRuntime) -> Result<(), Fail> {
+    let alloc: Global = rt.alloc();
+    let names = listed(alloc, "c", "", 64)?;
+    let values = listed(alloc, "", "", 64)?;
+    let columns = listed(alloc, "c", " INT", 64)?;
+    let schema = format!(in alloc; "TABLE wide FROM 'wide.csv' ({});", columns.as_str())?;
+    let query = format!(in alloc; "SELECT {} FROM wide", names.as_str())?;
+    let records = format!(in alloc; "{}\n{}\n", names.as_str(), values.as_str())?;
+    let tables = [("wide.csv", records.as_str())];
+    let mut files = files_of(alloc, schema.as_str(), query.as_str(), &tables)?;
+    let prepared = planned(&rt, alloc, &mut files, "auto")?;
+    let sink = written(&rt, by_turns(&rt, alloc, &prepared, None));
+    let text = format!(in alloc;
+        "N 1 project 2\nN 2 scan wide wide\nH {}\nR {}\nE rows=1 work=2\n",
+        names.as_str(), values.as_str()
+    )?;
+    assert_eq!(rt; sink.bytes(), text.as_bytes());
+    Ok(())
+}
+
+const CHAINED: &str = "SELECT z.n FROM one w JOIN one x ON x.n = w.n JOIN one y ON y.n = x.n JOIN one z ON z.n = y.n";
+
+const CHAIN: &str =
+    "N 1 project 2\nN 2 hash 3 8 unique=none\nN 3 hash 4 7 unique=none\nN 4 hash 5 6 unique=none\n\
+N 5 scan one w\nN 6 scan one x\nN 7 scan one y\nN 8 scan one z\nH n\n";
+
+/// This text so many times.
+fn repeated(alloc: Global, piece: &str, count: u32) -> Result<String, AllocError> {
+    let mut text = String::new(alloc);
+    for _ in 0..count {
+        text.push_str(piece)?;
+    }
+    Ok(text)
+}
+
+/// Four times a thousand equal rows are joined, so the whole work is of two million million events. The first turns take
+/// their events and no more.
+#[test]
+fn turns_of_a_long_run_take_their_events_alone(rt: HostRuntime) -> Result<(), Fail> {
+    let alloc: Global = rt.alloc();
+    let schema = "TABLE one FROM 'one.csv' (n INT NOT NULL);";
+    let records = format!(in alloc; "n\n{}", repeated(alloc, "1\n", 1000)?.as_str())?;
+    let mut files = files_of(alloc, schema, CHAINED, &[("one.csv", records.as_str())])?;
+    let prepared = planned(&rt, alloc, &mut files, "hash")?;
+    let whole = Whole {
+        work: 5000,
+        lo: 8000,
+        hi: 2_001_001_004_000,
+    };
+    for every in [None, Some(1), Some(5000)] {
+        match after_turns(alloc, &prepared, every, 5000) {
+            Ok((stand, sink)) => {
+                assert_eq!(rt; stand, (5000, 998, whole));
+                if every == Some(5000) {
+                    let rows = repeated(alloc, "R 1\n", 998)?;
+                    let text = format!(in alloc;
+                        "{CHAIN}{}P work=5000 lo=8000 hi=2001001004000 ", rows.as_str()
+                    )?;
+                    assert!(rt; sink.bytes().starts_with(text.as_bytes()));
+                }
+            }
+            Err(fault) => panic!(rt; "{fault:?}"),
         }
     }
     Ok(())
