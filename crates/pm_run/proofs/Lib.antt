@@ -3,3 +3,4 @@ mod Moments
 mod RootRows
 mod Turns
 mod BoundLines
+pub mod Pieces

@@ -1,4 +1,5 @@
 pub mod Text
+pub mod Pieces
 pub mod Pace
 pub mod IsBounding
 pub mod IsMeter
