@@ -65,8 +65,7 @@ module _ (decls : List Declaration) where
   grouped_kinds : (query : Query) (l m : Tree) → kinds_of decls l ≡ kinds_of decls m → kinds_of decls (group_if query l) ≡ kinds_of decls (group_if query m)
   grouped_kinds query l m same =
       let group : Tree → Tree = λ tree. Over (Group query.keys query.aggregates) tree in
-      elim query.grouped as (λ t. kinds_of decls (if t then filtered query.having (group l) else l) ≡ kinds_of decls (if t then filtered query.having (group m) else m))
-      [
+      elim query.grouped as (λ t. kinds_of decls (if t then filtered query.having (group l) else l) ≡ kinds_of decls (if t then filtered query.having (group m) else m)) [
         | true ↦ filtered_kinds query.having (group l) ∙ ap (kinds_over (Group query.keys query.aggregates)) same ∙ sym (filtered_kinds query.having (group m))
         | false ↦ same
       ]
@@ -81,11 +80,10 @@ plan_kinds query sizes a b =
     let different : Tree → Tree = λ tree. Over (Group (numbers_from 0 query.outputs) []) (Over (Project query.outputs) tree) in
     let above : Tree → Tree = λ tree. sort_if (selected_orders query) (different tree) in
     let below : Tree → Tree = λ tree. Over (Project query.outputs) (sort_if query.orders tree) in
-    elim query.distinct as (λ t. kinds_of decls (if t then above (rows a) else below (rows a)) ≡ kinds_of decls (if t then above (rows b) else below (rows b)))
-    [
+    elim query.distinct as (λ t. kinds_of decls (if t then above (rows a) else below (rows a)) ≡ kinds_of decls (if t then above (rows b) else below (rows b))) [
       | true ↦ sorted_kinds decls (selected_orders query) (different (rows a))
-            ∙ ap (λ ks. kinds_over (Group (numbers_from 0 query.outputs) []) (kinds_over (Project query.outputs) ks)) same
-            ∙ sym (sorted_kinds decls (selected_orders query) (different (rows b)))
+          ∙ ap (λ ks. kinds_over (Group (numbers_from 0 query.outputs) []) (kinds_over (Project query.outputs) ks)) same
+          ∙ sym (sorted_kinds decls (selected_orders query) (different (rows b)))
       | false ↦ ap (kinds_over (Project query.outputs))
-            (sorted_kinds decls query.orders (rows a) ∙ same ∙ sym (sorted_kinds decls query.orders (rows b)))
+          (sorted_kinds decls query.orders (rows a) ∙ same ∙ sym (sorted_kinds decls query.orders (rows b)))
     ]

@@ -34,7 +34,8 @@ const GROUPS: &str =
 
 const VISITS: &str = "SELECT o.id, v.cust FROM ord o JOIN visit v ON o.cust = v.cust";
 
-const MERGED: &str = "N 1 project 2\nN 2 merge 3 4 unique=right\nN 3 scan ord o\nN 4 scan cust c\nH id,name\n\
+const MERGED: &str =
+    "N 1 project 2\nN 2 merge 3 4 unique=right\nN 3 scan ord o\nN 4 scan cust c\nH id,name\n\
 P work=1 lo=7 hi=15 dne=1/7 safe=1/10 pmax=1/7 pct=6.66..14.29\n\
 P work=2 lo=9 hi=15 dne=2/7 safe=2/11 pmax=2/9 pct=13.33..22.23\n\
 P work=3 lo=9 hi=15 dne=3/7 safe=3/11 pmax=3/9 pct=20.00..33.34\n\
@@ -49,40 +50,52 @@ P work=11 lo=13 hi=15 dne=6/7 safe=11/13 pmax=11/13 pct=73.33..84.62\nR 5,Bob\n\
 P work=12 lo=13 hi=15 dne=6/7 safe=12/13 pmax=12/13 pct=80.00..92.31\n\
 P work=13 lo=13 hi=13 dne=7/7 safe=13/13 pmax=13/13 pct=100.00..100.00\nE rows=3 work=13\n";
 
-const HASHED: &str = "N 1 project 2\nN 2 hash 3 4 unique=right\nN 3 scan ord o\nN 4 scan cust c\nH id,name\n\
+const HASHED: &str =
+    "N 1 project 2\nN 2 hash 3 4 unique=right\nN 3 scan ord o\nN 4 scan cust c\nH id,name\n\
 P work=5 lo=9 hi=15 dne=4/7 safe=5/11 pmax=5/9 pct=33.33..55.56\nR 7,Ann\nR 8,Ann\n\
 P work=10 lo=13 hi=15 dne=6/7 safe=10/13 pmax=10/13 pct=66.66..76.93\nR 5,Bob\n\
 P work=13 lo=13 hi=13 dne=7/7 safe=13/13 pmax=13/13 pct=100.00..100.00\nE rows=3 work=13\n";
 
-const LOOKED_UP: &str = "N 1 project 2\nN 2 index 3 4\nN 3 scan ord o\nN 4 seek cust c unique=right\nH id,name\nR 7,Ann\nR 8,Ann\nR 5,Bob\n\
+const LOOKED_UP: &str =
+    "N 1 project 2\nN 2 index 3 4\nN 3 scan ord o\nN 4 seek cust c unique=right\nH id,name\nR 7,Ann\nR 8,Ann\nR 5,Bob\n\
 P work=13 lo=13 hi=13 dne=4/4 safe=13/13 pmax=13/13 pct=100.00..100.00\nE rows=3 work=13\n";
 
-const GROUPED: &str = "N 1 project 2\nN 2 sort 3\nN 3 group 4\nN 4 lefthash 5 6 unique=left\nN 5 scan cust c\nN 6 scan ord o\n\
+const GROUPED: &str =
+    "N 1 project 2\nN 2 sort 3\nN 3 group 4\nN 4 lefthash 5 6 unique=left\nN 5 scan cust c\nN 6 scan ord o\n\
 H name,COUNT(*),SUM(o.amt)\nP work=5 lo=14 hi=31 dne=5/19 safe=5/20 pmax=5/14 pct=16.12..35.72\n\
 P work=10 lo=17 hi=20 dne=7/13 safe=10/18 pmax=10/17 pct=50.00..58.83\n\
 P work=15 lo=20 hi=20 dne=11/13 safe=15/20 pmax=15/20 pct=75.00..75.00\nR Dan,1,\nR Bob,1,10.00\nR Ann,2,2.50\n\
 P work=20 lo=20 hi=20 dne=13/13 safe=20/20 pmax=20/20 pct=100.00..100.00\nE rows=3 work=20\n";
 
-const NO_BUILD: &str = "N 1 project 2\nN 2 hash 3 4 unique=none\nN 3 scan ord o\nN 4 scan visit v\nH id,cust\n\
+const NO_BUILD: &str =
+    "N 1 project 2\nN 2 hash 3 4 unique=none\nN 3 scan ord o\nN 4 scan visit v\nH id,cust\n\
 P work=1 lo=4 hi=4 dne=1/4 safe=1/4 pmax=1/4 pct=25.00..25.00\n\
 P work=2 lo=4 hi=4 dne=2/4 safe=2/4 pmax=2/4 pct=50.00..50.00\n\
 P work=3 lo=4 hi=4 dne=3/4 safe=3/4 pmax=3/4 pct=75.00..75.00\n\
 P work=4 lo=4 hi=4 dne=4/4 safe=4/4 pmax=4/4 pct=100.00..100.00\nE rows=0 work=4\n";
 
-const COLUMNS: &str = "N 1 project 2\nN 2 scan ord ord\nH id,amt,cust\nR 7,2.50,1\nR 8,,1\nR 5,10.00,2\nR 6,0.25,3\nE rows=4 work=8\n";
+const COLUMNS: &str =
+    "N 1 project 2\nN 2 scan ord ord\nH id,amt,cust\nR 7,2.50,1\nR 8,,1\nR 5,10.00,2\nR 6,0.25,3\nE rows=4 work=8\n";
 
 const EMPTY: &str = "N 1 project 2\nN 2 scan visit visit\nH cust\nE rows=0 work=0\n";
 
-/// A statement, the choice of its joins, after how many events a progress line comes, and the text of its run.
-const CASES: [(&str, &str, Option<u64>, &str); 7] = [
-    (ORDERS, "merge", Some(1), MERGED),
-    (ORDERS, "hash", Some(5), HASHED),
-    (ORDERS, "index", Some(100), LOOKED_UP),
-    (GROUPS, "auto", Some(5), GROUPED),
-    (VISITS, "hash", Some(1), NO_BUILD),
-    ("SELECT id, amt, cust FROM ord", "auto", None, COLUMNS),
-    ("SELECT cust FROM visit", "auto", Some(1), EMPTY),
+/// A statement, the choice of its joins, after how many events a progress line comes, with 0 for none, and the text of its run.
+const CASES: [(&str, &str, u64, &str); 7] = [
+    (ORDERS, "merge", 1, MERGED),
+    (ORDERS, "hash", 5, HASHED),
+    (ORDERS, "index", 100, LOOKED_UP),
+    (GROUPS, "auto", 5, GROUPED),
+    (VISITS, "hash", 1, NO_BUILD),
+    ("SELECT id, amt, cust FROM ord", "auto", 0, COLUMNS),
+    ("SELECT cust FROM visit", "auto", 1, EMPTY),
 ];
+
+/// A progress line after each so many events, or none for 0.
+fn each(events: u64) -> Option<u64>
+    ensures { IfSome result (λ n. 1 ≤ n) }
+{
+    if events == 0 { None } else { Some(events) }
+}
 
 /// The files of the schema and of the statement, and those of tables.
 fn files_of(
@@ -124,9 +137,10 @@ fn turns(run: &mut Run<'_>, sink: &mut MemSink, count: u32) -> Result<bool, Line
     requires { CanTurn run.old.stage }
     ensures { result ≡ Ok true → CanTurn run.new.stage }
 {
-    for _ in 0..count {
-        if run.turn(sink)? == Turn::Ended {
-            return Ok(false);
+    'turns: for _ in 0..count {
+        match run.turn(sink)? {
+            Turn::Went => {}
+            Turn::Ended => return Ok(false),
         }
     }
     Ok(true)
@@ -137,21 +151,20 @@ fn by_turns(
     rt: &impl Abort,
     alloc: Global,
     prepared: &Prepared,
-    every: Option<u64>,
+    every: u64,
 ) -> Result<MemSink, LineBad>
-    requires ready { IsReady prepared.now }
-    requires every { IfSome every (λ n. 1 ≤ n) }
+    requires { IsReady prepared.now }
 {
     let (plan, db) = (&prepared.plan, &prepared.request.db);
     let keys = key_columns(alloc, plan)?;
     let indexes = seek_indexes(alloc, plan, db, &keys)?;
-    let mut run = Run::begin(alloc, plan, db, &keys, &indexes, every)?;
+    let mut run = Run::begin(alloc, plan, db, &keys, &indexes, each(every))?;
     let mut sink = MemSink::new(alloc, 65536)?;
     run.head(&mut sink)?;
-    'turns: for taken in 0..1000u32 {
+    'events: for taken in 0..1000u32 {
         assert_eq!(rt; run.events(), u128::from(taken));
         if !turns(&mut run, &mut sink, 1)? {
-            break 'turns;
+            break 'events;
         }
     }
     let end = format!(in alloc; "E rows={} work={}\n", run.rows(), run.events())?;
@@ -160,12 +173,12 @@ fn by_turns(
 }
 
 /// What a whole run writes.
-fn at_once(alloc: Global, prepared: &Prepared, every: Option<u64>) -> Result<MemSink, LineBad>
-    requires ready { IsReady prepared.now }
-    requires every { IfSome every (λ n. 1 ≤ n) }
+fn at_once(alloc: Global, prepared: &Prepared, every: u64) -> Result<MemSink, LineBad>
+    requires { IsReady prepared.now }
 {
     let mut sink = MemSink::new(alloc, 65536)?;
-    run_all(alloc, &prepared.plan, &prepared.request.db, every, &mut sink)?;
+    let db = &prepared.request.db;
+    run_all(alloc, &prepared.plan, db, each(every), &mut sink)?;
     Ok(sink)
 }
 
@@ -185,7 +198,7 @@ fn turns_write_what_whole_runs_write(rt: HostRuntime) -> Result<(), Fail> {
         let prepared = planned(&rt, alloc, &mut files, join)?;
         let whole = written(&rt, by_turns(&rt, alloc, &prepared, shown));
         assert_eq!(rt; whole.bytes(), text.as_bytes(), "{query}");
-        for every in [None, Some(1), Some(2), Some(5), Some(100)] {
+        for every in [0, 1, 2, 5, 100] {
             let turned = written(&rt, by_turns(&rt, alloc, &prepared, every));
             let whole = written(&rt, at_once(alloc, &prepared, every));
             assert_eq!(rt; turned.bytes(), whole.bytes(), "{query}");
@@ -201,16 +214,15 @@ type Stand = (u128, u128, Whole);
 fn after_turns(
     alloc: Global,
     prepared: &Prepared,
-    every: Option<u64>,
+    every: u64,
     count: u32,
 ) -> Result<(Stand, MemSink), LineBad>
-    requires ready { IsReady prepared.now }
-    requires every { IfSome every (λ n. 1 ≤ n) }
+    requires { IsReady prepared.now }
 {
     let (plan, db) = (&prepared.plan, &prepared.request.db);
     let keys = key_columns(alloc, plan)?;
     let indexes = seek_indexes(alloc, plan, db, &keys)?;
-    let mut run = Run::begin(alloc, plan, db, &keys, &indexes, every)?;
+    let mut run = Run::begin(alloc, plan, db, &keys, &indexes, each(every))?;
     let mut sink = MemSink::new(alloc, 1_000_000)?;
     run.head(&mut sink)?;
     turns(&mut run, &mut sink, count)?;
@@ -233,7 +245,7 @@ fn runs_tell_where_they_stand(rt: HostRuntime) -> Result<(), Fail> {
         let mut files = files_of(alloc, SCHEMA, ORDERS, &FILES)?;
         let prepared = planned(&rt, alloc, &mut files, join)?;
         let work = u128::from(count.min(13u32));
-        for every in [None, Some(1), Some(5)] {
+        for every in [0, 1, 5] {
             match after_turns(alloc, &prepared, every, count) {
                 Ok((stand, _)) => {
                     assert_eq!(rt; stand, (work, rows, Whole { work, lo, hi }), "{join}");
@@ -269,16 +281,18 @@ fn a_row_has_64_columns(rt: HostRuntime) -> Result<(), Fail> {
     let tables = [("wide.csv", records.as_str())];
     let mut files = files_of(alloc, schema.as_str(), query.as_str(), &tables)?;
     let prepared = planned(&rt, alloc, &mut files, "auto")?;
-    let sink = written(&rt, by_turns(&rt, alloc, &prepared, None));
+    let sink = written(&rt, by_turns(&rt, alloc, &prepared, 0));
     let text = format!(in alloc;
         "N 1 project 2\nN 2 scan wide wide\nH {}\nR {}\nE rows=1 work=2\n",
-        names.as_str(), values.as_str()
+        names.as_str(),
+        values.as_str()
     )?;
     assert_eq!(rt; sink.bytes(), text.as_bytes());
     Ok(())
 }
 
-const CHAINED: &str = "SELECT z.n FROM one w JOIN one x ON x.n = w.n JOIN one y ON y.n = x.n JOIN one z ON z.n = y.n";
+const CHAINED: &str =
+    "SELECT z.n FROM one w JOIN one x ON x.n = w.n JOIN one y ON y.n = x.n JOIN one z ON z.n = y.n";
 
 const CHAIN: &str =
     "N 1 project 2\nN 2 hash 3 8 unique=none\nN 3 hash 4 7 unique=none\nN 4 hash 5 6 unique=none\n\
@@ -307,14 +321,15 @@ fn turns_of_a_long_run_take_their_events_alone(rt: HostRuntime) -> Result<(), Fa
         lo: 8000,
         hi: 2_001_001_004_000,
     };
-    for every in [None, Some(1), Some(5000)] {
+    for every in [0, 1, 5000] {
         match after_turns(alloc, &prepared, every, 5000) {
             Ok((stand, sink)) => {
                 assert_eq!(rt; stand, (5000, 998, whole));
-                if every == Some(5000) {
+                if every == 5000 {
                     let rows = repeated(alloc, "R 1\n", 998)?;
                     let text = format!(in alloc;
-                        "{CHAIN}{}P work=5000 lo=8000 hi=2001001004000 ", rows.as_str()
+                        "{CHAIN}{}P work=5000 lo=8000 hi=2001001004000 ",
+                        rows.as_str()
                     )?;
                     assert!(rt; sink.bytes().starts_with(text.as_bytes()));
                 }
