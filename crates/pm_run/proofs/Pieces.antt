@@ -1,5 +1,5 @@
 -- the text of a run in pieces: the progress lines among them are all that the settings of progress change
-use Rattle.std.proofs.Common.{◌≡◌, ◌∙◌, ℕ, zero, suc, ◌≤◌, Bool, true, false, cond, eqb, List, [], ◌∷◌, ◌++◌, length, map, take, Option, None, Some, refl, sym, ap, arith, append_assoc}
+use Rattle.std.proofs.Common.{◌≡◌, ◌∙◌, ℕ, zero, suc, ◌≤◌, true, false, cond, eqb, List, [], ◌∷◌, ◌++◌, length, map, take, Option, None, Some, refl, sym, ap, arith, append_assoc}
 use Rattle.std.specs.Prelude.{filter, slice_get}
 use Rattle.std.specs.List.{flat_map}
 use Rattle.std.proofs.lemmas.Grind.{flat_map-append}
@@ -24,11 +24,11 @@ use Rattle.pm_lines.specs.Progress.{progress_line}
 use Rattle.pm_run.specs.Text.{row_texts, row_part, is_due, progress_part, event_lines, lines_until, end_text, run_text}
 use Rattle.pm_run.specs.Pieces.{Piece, PlanLines, HeadLine, RowLine, ProgressLine, EndLine, text_in, text_of_pieces, row_piece, row_pieces, progress_pieces, event_pieces, pieces_until, pieces, is_lasting, lasting, is_answer, answering, output_pieces}
 
-both : (as bs cs ds : List ℕ) → as ≡ cs → bs ≡ ds → as ++ bs ≡ cs ++ ds
-both as bs cs ds p q = ap (λ x. x ++ bs) p ∙ ap (λ x. cs ++ x) q
+both : (xs ys us vs : List ℕ) → xs ≡ us → ys ≡ vs → xs ++ ys ≡ us ++ vs
+both xs ys us vs p q = ap (λ x. x ++ ys) p ∙ ap (λ x. us ++ x) q
 
-both_pieces : (as bs cs ds : List Piece) → as ≡ cs → bs ≡ ds → as ++ bs ≡ cs ++ ds
-both_pieces as bs cs ds p q = ap (λ x. x ++ bs) p ∙ ap (λ x. cs ++ x) q
+both_pieces : (xs ys us vs : List Piece) → xs ≡ us → ys ≡ vs → xs ++ ys ≡ us ++ vs
+both_pieces xs ys us vs p q = ap (λ x. x ++ ys) p ∙ ap (λ x. us ++ x) q
 
 -- ---- the pieces make the text
 

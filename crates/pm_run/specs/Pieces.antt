@@ -1,5 +1,5 @@
 -- the text of a run in pieces, which say what kind of line each is: so it is told without reading bytes which lines are of progress
-use Rattle.std.specs.Prelude.{ℕ, zero, suc, ◌==◌, Bool, true, false, not, if◌then◌else◌, List, [], ◌∷◌, ◌++◌, map, filter, Option, None, Some}
+use Rattle.std.specs.Prelude.{ℕ, zero, suc, ◌==◌, Bool, true, false, if◌then◌else◌, List, [], ◌∷◌, ◌++◌, map, filter, Option, None, Some}
 use Rattle.std.specs.List.{flat_map}
 use Rattle.pm_values.specs.declared.value.Kind.{Kind}
 use Rattle.pm_values.specs.Row.{Row}
