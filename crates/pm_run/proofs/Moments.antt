@@ -15,6 +15,7 @@ use Rattle.pm_work.specs.Fits.{Fits, IsSound, sizes_of}
 use Rattle.pm_work.specs.First.{first_sum, greatest, most_work}
 use Rattle.pm_work.specs.Moments.{counts_at, gauge_in, gauges_at}
 use Rattle.pm_work.specs.Work.{whole_work, scanned_rows}
+use Rattle.pm_work.proofs.Counting.{length-events}
 use Rattle.pm_work.proofs.EventLists.{Within}
 use Rattle.pm_work.proofs.EventLaws.{Within-events}
 use Rattle.pm_work.proofs.Gauges.{length-gauges_of}
@@ -42,10 +43,15 @@ traced [] t node at = absurd at
 traced (e ∷ es) zero node at = at
 traced (e ∷ es) (suc t) node at = traced es t node at
 
+inside : (es : List Event) (t node : ℕ) → IsOf node (slice_get es t) → t < length es
+inside [] t node at = absurd at
+inside (e ∷ es) zero node at = omega arith
+inside (e ∷ es) (suc t) node at = omega (arith, inside es t node at)
+
 among_events : (a b : ℕ) (es : List Event) (t node : ℕ) → Within a b es → IsOf node (slice_get es t) → (a ≤ node) × (node < b)
-among_events a b [] t node inside at = absurd at
-among_events a b (e ∷ es) zero node inside at = (omega (arith, inside.0, at), omega (arith, inside.1, at))
-among_events a b (e ∷ es) (suc t) node inside at = among_events a b es t node inside.2 at
+among_events a b [] t node all at = absurd at
+among_events a b (e ∷ es) zero node all at = (omega (arith, all.0, at), omega (arith, all.1, at))
+among_events a b (e ∷ es) (suc t) node all at = among_events a b es t node all.2 at
 
 pub record IsAmongNodes (many node : ℕ) : Type 0 where
   pub first : 1 ≤ node
@@ -95,12 +101,12 @@ module _ (plan : Plan) (db : Db) (fits : Fits plan db) (tables : All IsRelation 
         next = subst (λ (n : ℕ). IsNext n (counts_at db tree t) (counts_at db tree (suc t))) (traced (events db tree 1) t node at) (next_moment db tree t left);
       }
 
-  pub last_event_is : (t node : ℕ) → t ≤ whole_work db tree → IsOf node (last_event (events db tree 1) t)
-      → IsOneEvent plan node (gauges_at db tree (t - 1)) (gauges_at db tree t)
-  last_event_is zero node within at = absurd at
-  last_event_is (suc t) node within at =
+  pub last_event_is : (t node : ℕ) → IsOf node (last_event (events db tree 1) t) → IsOneEvent plan node (gauges_at db tree (t - 1)) (gauges_at db tree t)
+  last_event_is zero node at = absurd at
+  last_event_is (suc t) node at =
       let before : suc t - 1 ≡ t = omega arith in
-      subst (λ (k : ℕ). IsOneEvent plan node (gauges_at db tree k) (gauges_at db tree (suc t))) (sym before) (next_event t node (omega (arith, within)) at)
+      let left : t < whole_work db tree = omega (arith, inside (events db tree 1) t node at, length-events db tree 1) in
+      subst (λ (k : ℕ). IsOneEvent plan node (gauges_at db tree k) (gauges_at db tree (suc t))) (sym before) (next_event t node left at)
 
   -- its node is one of the plan's
   pub last_node_is : (t node : ℕ) → IsOf node (last_event (events db tree 1) t) → IsAmongNodes (length plan.nodes) node

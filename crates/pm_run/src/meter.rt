@@ -45,6 +45,7 @@ impl<'a> Meter<'a> {
         ensures meter { IfOk result (IsMeter exec.now.plan exec.now.db 0 1) }
         ensures every { IfOk result (λ meter. meter.every ≡ every) }
     {
+        runs_fit(exec);
         let pipes = Pipes::of(alloc, plan)?;
         let bounding = Bounding::of(alloc, plan, exec.gauges(), every)?;
         Ok(Meter {
@@ -69,11 +70,11 @@ impl<'a> Meter<'a> {
     /// The work done and the bounds of the whole work, at this moment of a run.
     pub(crate) fn whole(&mut self, plan: &Plan, exec: &Exec<'_>) -> Whole
         requires plan { plan.now ≡ exec.now.plan }
-        requires bounding { IsBounding plan.now (gauges_at exec.now.db (tree_of plan.now.nodes) exec.now.taken) self.old.bounding }
+        requires bounding { IsBounding exec.now.plan (gauges_at exec.now.db (tree_of exec.now.plan.nodes) exec.now.taken) self.old.bounding }
         ensures value { result ≡ whole_of (tree_of exec.now.plan.nodes) (gauge_in (gauges_at exec.now.db (tree_of exec.now.plan.nodes) exec.now.taken)) }
         ensures each { bounds_in self.new.bounding ≡ bounds_of (tree_of exec.now.plan.nodes) 1 (gauge_in (gauges_at exec.now.db (tree_of exec.now.plan.nodes) exec.now.taken)) }
         ensures same { self.new ≡ record self.old { bounding = self.new.bounding } }
-        ensures bounding { IsBounding plan.now (gauges_at exec.now.db (tree_of plan.now.nodes) exec.now.taken) self.new.bounding }
+        ensures bounding { IsBounding exec.now.plan (gauges_at exec.now.db (tree_of exec.now.plan.nodes) exec.now.taken) self.new.bounding }
     {
         self.bounding.whole(plan, exec.gauges())
     }
@@ -83,11 +84,11 @@ impl<'a> Meter<'a> {
         requires begun { 1 ≤ exec.now.taken }
         requires plan { plan.now ≡ exec.now.plan }
         requires pipes { self.old.pipes ≡ pipes_in (tree_of plan.now.nodes) }
-        requires bounding { IsBounding plan.now (gauges_at exec.now.db (tree_of plan.now.nodes) exec.now.taken) self.old.bounding }
+        requires bounding { IsBounding exec.now.plan (gauges_at exec.now.db (tree_of exec.now.plan.nodes) exec.now.taken) self.old.bounding }
         ensures value { result ≡ shown_at exec.now.db (tree_of exec.now.plan.nodes) exec.now.taken }
         ensures moment { IsMoment (whole_work_of exec.now) exec.now.taken result }
         ensures same { self.new ≡ record self.old { bounding = self.new.bounding } }
-        ensures bounding { IsBounding plan.now (gauges_at exec.now.db (tree_of plan.now.nodes) exec.now.taken) self.new.bounding }
+        ensures bounding { IsBounding exec.now.plan (gauges_at exec.now.db (tree_of exec.now.plan.nodes) exec.now.taken) self.new.bounding }
     {
         runs_fit(exec);
         let whole = self.whole(plan, exec);
