@@ -1,15 +1,9 @@
-use Rattle.std.proofs.Common.{◌≡◌, ◌+◌, ◌≤◌, true, false, length, sym, ap, subst, ◌∙◌, arith}
+use Rattle.std.proofs.Common.{◌≡◌, true, false, sym, ap, subst, ◌∙◌, arith}
 use Rattle.std.proofs.lemmas.Result.{on_err_weaker}
-use Rattle.std.specs.Prelude.{Some, IfSome}
 use Rattle.pm_io.specs.Sink.{GainsPart}
-use Rattle.pm_plan.specs.Preorder.{tree_of}
-use Rattle.pm_work.specs.Moments.{gauges_at}
 use Rattle.pm_lines.specs.Progress.{progress_line}
 use Rattle.pm_exec.specs.Ran.{whole_work_of}
 use Rattle.pm_run.specs.Text.{is_due}
-use Rattle.pm_run.specs.IsBounding.{IsBounding}
-use Rattle.pm_run.specs.Pace.{IsQuiet}
-use Rattle.pm_run.specs.declared.meter.Meter.{Meter}
 use Rattle.pm_run.proofs.Meters.{after-line}
 use Rattle.pm_run.proofs.Paces.{due-same, nothing-due, line-due}
 use Rattle.pm_run.proofs.meter.Meter.write_line.Goals as goal
