@@ -1,3 +1,5 @@
 pub mod Once
 pub mod Certain
 pub mod Stages
+pub mod PlanKinds
+pub mod Alike

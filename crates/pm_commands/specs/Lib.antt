@@ -3,3 +3,4 @@ pub mod Stops
 pub mod Calls
 pub mod Text
 pub mod Certified
+pub mod Alike

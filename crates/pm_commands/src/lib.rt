@@ -12,7 +12,10 @@ mod stop;
 mod writing;
 
 pub use command::Output;
-pub use laws::{calls_once, ready_is_certified};
+pub use laws::{
+    calls_once, joins_change_no_row, progress_changes_no_other_line, ready_is_certified,
+    workers_change_nothing,
+};
 pub use preparing::{Prepared, prepare};
 pub use stop::Stop;
 pub use writing::write;

@@ -1,5 +1,5 @@
 -- what is true of every run that writes
-use Rattle.std.specs.Prelude.{◌≡◌, false}
+use Rattle.std.specs.Prelude.{◌≡◌, ◌+◌, false}
 use Rattle.pm_run.specs.IsMeter.{IsMeter}
 use Rattle.pm_run.specs.RunState.{RunState, IsUnspent}
 use Rattle.pm_run.specs.declared.run.Run.TheInside.{Inside}
@@ -9,5 +9,5 @@ run_of a = record { plan = a.exec.plan; db = a.exec.db; every = a.meter.every; t
 
 pub record IsRun (a : Inside) : Type 0 where
   pub plan : a.plan.now ≡ a.exec.plan
-  pub meter : IsMeter a.exec.plan a.exec.db a.exec.taken a.meter
+  pub meter : IsMeter a.exec.plan a.exec.db a.exec.taken (a.exec.taken + 1) a.meter
   pub sound : IsUnspent a.stage → a.exec.failed ≡ false

@@ -1,5 +1,7 @@
 pub mod Text
+pub mod Pieces
 pub mod Pace
+pub mod IsBounding
 pub mod IsMeter
 pub mod RunState
 pub mod IsRun

@@ -2,7 +2,9 @@
 //! and the text of what is known of the plan before it runs.
 #![tactic(auto)]
 
+mod bounding;
 mod explain;
+mod laws;
 mod meter;
 mod row;
 mod run;
@@ -10,5 +12,6 @@ mod turn;
 mod worked;
 
 pub use explain::explain_all;
+pub use laws::{settings_change_progress_alone, texts_have_the_output};
 pub use run::{Run, Stage, run_all};
 pub use turn::Turn;

@@ -1,83 +1,98 @@
 //! Progress lines: when one is due, and what it shows.
-ghost use Rattle.std.specs.Prelude.{◌≡◌, ℕ, ◌+◌, ◌≤◌, ◌-◌, ◌^◌, length, IfOk, IfSome, OnOk, OnErr, Some};
+ghost use Rattle.std.specs.Prelude.{◌≡◌, ℕ, ◌+◌, ◌≤◌, ◌-◌, ◌^◌, IfOk, IfSome, OnOk, OnErr, Some};
 ghost use Rattle.pm_io.specs.Counts.{Rose};
 ghost use Rattle.pm_io.specs.Sink.{gained, GainsPart};
-ghost use Rattle.pm_plan.specs.Preorder.{tree_of, IsNumbered};
+ghost use Rattle.pm_plan.specs.Preorder.{tree_of};
 ghost use Rattle.pm_work.specs.Moments.{gauge_in, gauges_at};
 ghost use Rattle.pm_bounds.specs.Bounds.{bounds_of, whole_of};
 ghost use Rattle.pm_estim.specs.Lists.{pipes_in};
 ghost use Rattle.pm_estim.specs.Estimates.{shown_at};
-ghost use Rattle.pm_exec.specs.Ran.{whole_work_of};
+ghost use Rattle.pm_exec.specs.Ran.{IsOf, last_event, run_events, whole_work_of};
 ghost use Rattle.pm_run.specs.Text.{is_due, progress_part};
 ghost use Rattle.pm_run.specs.Pace.{IsQuiet};
+ghost use Rattle.pm_run.specs.IsBounding.{IsBounding, bounds_in};
 ghost use Rattle.pm_run.specs.IsMeter.{IsMeter, IsMoment};
 
-use pm_bounds::{bounds_all, whole};
+use crate::bounding::Bounding;
 use pm_estim::{Pipes, estimate};
 use pm_exec::{Exec, runs_fit};
 use pm_io::{Sink, WriteFault};
 use pm_lines::put_progress;
-use pm_plan::{Bound, Plan, Shown, Whole};
+use pm_plan::{Plan, Shown, Whole};
 use std::alloc::{AllocError, Global};
 
-/// What tells when a progress line is due, and what it shows. Bounds are computed only where a line may be due: at each so
-/// many events, and where as many were taken as the last lower bound of the whole work said.
+/// What tells when a progress line is due, and what it shows: where as many events were taken as a multiple of `every`, and
+/// where as many as the last lower bound of the whole work said.
 #[derive(Drop)]
-pub(crate) struct Meter {
+pub(crate) struct Meter<'a> {
     pub(crate) pipes: Pipes,
-    pub(crate) bounds: Vec<Bound>,
+    pub(crate) bounding: Bounding<'a>,
     pub(crate) every: Option<u64>,
     pub(crate) next: u128,
 }
 
-impl Meter {
+impl<'a> Meter<'a> {
     /// A meter before the first event.
-    pub(crate) fn of(alloc: Global, plan: &Plan, every: Option<u64>) -> Result<Meter, AllocError>
-        requires numbered { IsNumbered plan.now.nodes }
+    pub(crate) fn of(
+        alloc: Global,
+        plan: &'a Plan,
+        exec: &Exec<'_>,
+        every: Option<u64>,
+    ) -> Result<Meter<'a>, AllocError>
+        requires plan { plan.now ≡ exec.now.plan }
+        requires fresh { exec.now.taken ≡ 0 }
         requires every { IfSome every (λ n. 1 ≤ n) }
-        ensures pipes { IfOk result (λ meter. meter.pipes ≡ pipes_in (tree_of plan.now.nodes)) }
-        ensures room { IfOk result (λ meter. length meter.bounds.items ≡ length plan.now.nodes) }
+        ensures meter { IfOk result (IsMeter exec.now.plan exec.now.db 0 1) }
         ensures every { IfOk result (λ meter. meter.every ≡ every) }
-        ensures next { IfOk result (λ meter. meter.next ≡ 1) }
     {
+        runs_fit(exec);
         let pipes = Pipes::of(alloc, plan)?;
-        let bounds = Vec::from_elem(alloc, Bound { lo: 0, hi: 0 }, plan.nodes.len())?;
+        let bounding = Bounding::of(alloc, plan, exec.gauges(), every)?;
         Ok(Meter {
             pipes,
-            bounds,
+            bounding,
             every,
             next: 1,
         })
     }
 
+    /// Takes note of the event that was taken last, which was of this node.
+    pub(crate) fn note(&mut self, plan: &Plan, node: u32, exec: &Exec<'_>)
+        requires plan { plan.now ≡ exec.now.plan }
+        requires last { IsOf node (last_event (run_events exec.now) exec.now.taken) }
+        requires before { IsMeter exec.now.plan exec.now.db (exec.now.taken - 1) exec.now.taken self.old }
+        ensures after { IsMeter exec.now.plan exec.now.db exec.now.taken exec.now.taken self.new }
+        ensures every { self.new.every ≡ self.old.every }
+    {
+        self.bounding.note(plan, node, exec.gauges());
+    }
+
     /// The work done and the bounds of the whole work, at this moment of a run.
     pub(crate) fn whole(&mut self, plan: &Plan, exec: &Exec<'_>) -> Whole
         requires plan { plan.now ≡ exec.now.plan }
-        requires room { length self.old.bounds.items ≡ length plan.now.nodes }
+        requires bounding { IsBounding exec.now.plan (gauges_at exec.now.db (tree_of exec.now.plan.nodes) exec.now.taken) self.old.bounding }
         ensures value { result ≡ whole_of (tree_of exec.now.plan.nodes) (gauge_in (gauges_at exec.now.db (tree_of exec.now.plan.nodes) exec.now.taken)) }
-        ensures written { self.new.bounds.items ≡ bounds_of (tree_of exec.now.plan.nodes) 1 (gauge_in (gauges_at exec.now.db (tree_of exec.now.plan.nodes) exec.now.taken)) }
-        ensures bounds { self.new ≡ record self.old { bounds = self.new.bounds } }
-        ensures room { length self.new.bounds.items ≡ length plan.now.nodes }
+        ensures each { bounds_in self.new.bounding ≡ bounds_of (tree_of exec.now.plan.nodes) 1 (gauge_in (gauges_at exec.now.db (tree_of exec.now.plan.nodes) exec.now.taken)) }
+        ensures same { self.new ≡ record self.old { bounding = self.new.bounding } }
+        ensures bounding { IsBounding exec.now.plan (gauges_at exec.now.db (tree_of exec.now.plan.nodes) exec.now.taken) self.new.bounding }
     {
-        runs_fit(exec);
-        let gauges = exec.gauges();
-        bounds_all(plan, gauges, self.bounds.as_mut_slice());
-        whole(plan, gauges, self.bounds.as_slice())
+        self.bounding.whole(plan, exec.gauges())
     }
+
     /// What a progress line shows at this moment of a run that has taken an event.
     fn shown(&mut self, plan: &Plan, exec: &Exec<'_>) -> Shown
         requires begun { 1 ≤ exec.now.taken }
         requires plan { plan.now ≡ exec.now.plan }
         requires pipes { self.old.pipes ≡ pipes_in (tree_of plan.now.nodes) }
-        requires room { length self.old.bounds.items ≡ length plan.now.nodes }
+        requires bounding { IsBounding exec.now.plan (gauges_at exec.now.db (tree_of exec.now.plan.nodes) exec.now.taken) self.old.bounding }
         ensures value { result ≡ shown_at exec.now.db (tree_of exec.now.plan.nodes) exec.now.taken }
         ensures moment { IsMoment (whole_work_of exec.now) exec.now.taken result }
-        ensures bounds { self.new ≡ record self.old { bounds = self.new.bounds } }
-        ensures room { length self.new.bounds.items ≡ length plan.now.nodes }
+        ensures same { self.new ≡ record self.old { bounding = self.new.bounding } }
+        ensures bounding { IsBounding exec.now.plan (gauges_at exec.now.db (tree_of exec.now.plan.nodes) exec.now.taken) self.new.bounding }
     {
         runs_fit(exec);
         let whole = self.whole(plan, exec);
-        estimate(&self.pipes, exec.gauges(), self.bounds.as_slice(), &whole)
+        estimate(&self.pipes, exec.gauges(), self.bounding.bounds(), &whole)
     }
 
     /// Writes the progress line of the event that was taken last, where it has one.
@@ -89,12 +104,12 @@ impl Meter {
     ) -> Result<(), WriteFault>
         requires begun { 1 ≤ exec.now.taken }
         requires plan { plan.now ≡ exec.now.plan }
-        requires before { IsMeter exec.now.plan exec.now.db (exec.now.taken - 1) self.old }
+        requires before { IsMeter exec.now.plan exec.now.db exec.now.taken exec.now.taken self.old }
         ensures whole { OnOk result (S.written sink.new ≡ gained (S.written sink.old) (progress_part exec.now.plan exec.now.db self.old.every exec.now.taken)) }
         ensures part { OnErr result (GainsPart (S.written sink.old) (S.written sink.new) (progress_part exec.now.plan exec.now.db self.old.every exec.now.taken)) }
         ensures failed { OnErr result (Rose (S.faults sink.old) (S.faults sink.new)) }
         ensures faults { S.faults sink.old ≤ S.faults sink.new }
-        ensures after { IsMeter exec.now.plan exec.now.db exec.now.taken self.new }
+        ensures after { IsMeter exec.now.plan exec.now.db exec.now.taken (exec.now.taken + 1) self.new }
         ensures every { self.new.every ≡ self.old.every }
     {
         let Some(every) = self.every else {

@@ -37,7 +37,7 @@ pub struct Run<'a> {
     alloc: Global,
     plan: &'a Plan,
     exec: Exec<'a>,
-    meter: Meter,
+    meter: Meter<'a>,
     stage: Stage,
 }
 
@@ -76,7 +76,7 @@ impl<'a> Run<'a> {
         ensures { IfOk result (λ run. run ≡ record { plan = plan.entry.now; db = db.entry.now; every = every; taken = 0; stage = Stage.Fresh }) }
     {
         let exec = Exec::begin(alloc, plan, db, keys, indexes)?;
-        let meter = Meter::of(alloc, plan, every)?;
+        let meter = Meter::of(alloc, plan, &exec, every)?;
         Ok(Run {
             alloc,
             plan,

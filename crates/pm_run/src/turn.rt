@@ -39,11 +39,11 @@ pub(crate) fn take_turn<S: Sink>(
     sink: &mut S,
     plan: &Plan,
     exec: &mut Exec<'_>,
-    meter: &mut Meter,
+    meter: &mut Meter<'_>,
 ) -> Result<Turn, LineBad>
     requires plan { plan.now ≡ exec.old.plan }
     requires sound { exec.old.failed ≡ false }
-    requires meter { IsMeter exec.old.plan exec.old.db exec.old.taken meter.old }
+    requires meter { IsMeter exec.old.plan exec.old.db exec.old.taken (exec.old.taken + 1) meter.old }
     ensures went { result ≡ Ok Turn.Went → S.written sink.new ≡ gained (S.written sink.old) (event_lines exec.old.plan exec.old.db meter.old.every (exec.old.taken + 1)) }
     ensures took { result ≡ Ok Turn.Went → exec.new ≡ record exec.old { taken = exec.old.taken + 1 } }
     ensures left { result ≡ Ok Turn.Went → exec.old.taken < whole_work_of exec.old }
@@ -56,7 +56,7 @@ pub(crate) fn take_turn<S: Sink>(
     ensures taken { result ≡ Err LineBad.Write → exec.new.taken ≡ min (exec.old.taken + 1) (whole_work_of exec.old) }
     ensures failed { result ≡ Err LineBad.Write → Rose (S.faults sink.old) (S.faults sink.new) }
     ensures faults { S.faults sink.old ≤ S.faults sink.new }
-    ensures meter { IsMeter exec.new.plan exec.new.db exec.new.taken meter.new }
+    ensures meter { IsMeter exec.new.plan exec.new.db exec.new.taken (exec.new.taken + 1) meter.new }
     ensures every { meter.new.every ≡ meter.old.every }
 {
     match exec.step()? {
@@ -65,6 +65,7 @@ pub(crate) fn take_turn<S: Sink>(
             Ok(Turn::Ended)
         }
         Tick::Row(node) => {
+            meter.note(plan, node, exec);
             write_event(alloc, sink, plan, node, exec)?;
             meter.write_line(sink, plan, exec)?;
             Ok(Turn::Went)

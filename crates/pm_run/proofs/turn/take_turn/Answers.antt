@@ -78,7 +78,8 @@ returns-in_err-write_line-in-Row-clause-part g c =
     parts b e c.args.plan.now every is c.requires.plan ∙ sym (after-goes b every (room b e is c.in_ok-step.ensures.within)) in
     on_err c.from_residual-in_err-write_line-in-Row.result
     (subst (GainsPart old new) text
-    (part_later old mid new row progress c.in_ok-write_event-in-Row.ensures.whole c.in_err-write_line-in-Row.ensures.part))
+    (part_later old mid new row progress c.in_ok-write_event-in-Row.ensures.whole
+    (subst (λ o. GainsPart mid new (progress_part e.plan e.db o e.taken)) c.note.ensures.every c.in_err-write_line-in-Row.ensures.part)))
 
 pub returns-in_ok-write_line-in-Row-clause-went : goal.returns-in_ok-write_line-in-Row-clause-went
 returns-in_ok-write_line-in-Row-clause-went g c = λ _.
@@ -91,6 +92,7 @@ returns-in_ok-write_line-in-Row-clause-went g c = λ _.
     let row = row_part c.args.plan.now.kinds (last_event (run_events e) e.taken) in
     let progress = progress_part e.plan e.db every e.taken in
     c.in_ok-write_line-in-Row.ensures.whole
+    ∙ ap (λ o. gained (written c.write_event.new.sink) (progress_part e.plan e.db o e.taken)) c.note.ensures.every
     ∙ ap (λ m. gained m progress) c.in_ok-write_event-in-Row.ensures.whole
     ∙ gained-gained old row progress
     ∙ ap (gained old) (parts b e c.args.plan.now every is c.requires.plan)

@@ -1,12 +1,10 @@
-use Rattle.std.proofs.Common.{◌≡◌, ◌+◌, ◌≤◌, true, false, length, sym, ap, subst, ◌∙◌, arith}
+use Rattle.std.proofs.Common.{◌≡◌, true, false, sym, ap, subst, ◌∙◌, arith}
 use Rattle.std.proofs.lemmas.Result.{on_err_weaker}
-use Rattle.std.specs.Prelude.{Some, IfSome}
 use Rattle.pm_io.specs.Sink.{GainsPart}
 use Rattle.pm_lines.specs.Progress.{progress_line}
 use Rattle.pm_exec.specs.Ran.{whole_work_of}
 use Rattle.pm_run.specs.Text.{is_due}
-use Rattle.pm_run.specs.Pace.{IsQuiet}
-use Rattle.pm_run.specs.declared.meter.Meter.{Meter}
+use Rattle.pm_run.proofs.Meters.{after-line}
 use Rattle.pm_run.proofs.Paces.{due-same, nothing-due, line-due}
 use Rattle.pm_run.proofs.meter.Meter.write_line.Goals as goal
 
@@ -43,11 +41,12 @@ pub returns-then-is_due-clause-after : goal.returns-then-is_due-clause-after
 returns-then-is_due-clause-after g c =
     let e = c.args.exec.now in
     let m = c.shown-shown.ensures in
-    let quiet : IsQuiet (Some c.in-Some.every) (whole_work_of e) (e.taken + 1) c.next_look-self.result =
-    subst (λ k. IsQuiet (Some c.in-Some.every) (whole_work_of e) (k + 1) c.next_look-self.result) m.moment.work (c.next_look-self.ensures (whole_work_of e) m.moment.below) in
-    record {
-      pipes = ap (λ (x : Meter). x.pipes) m.bounds ∙ c.requires.before.pipes;
-      room = m.room ∙ ap (λ p. length p.nodes) c.requires.plan;
-      every = subst (λ o. IfSome o (λ n. 1 ≤ n)) (sym (ap (λ (x : Meter). x.every) m.bounds)) c.requires.before.every;
-      quiet = subst (λ o. IsQuiet o (whole_work_of e) (e.taken + 1) c.next_look-self.result) (sym (ap (λ (x : Meter). x.every) m.bounds ∙ c.in-Some.is)) quiet;
-    }
+    after-line e.plan e.db e.taken c.args.self.now c.shown-shown.new.self m.same m.bounding c.in-Some.every c.next_look-self.result c.shown-shown.result c.requires.before c.in-Some.is m.moment
+    c.next_look-self.ensures
+
+pub returns-else-is_due-clause-after : goal.returns-else-is_due-clause-after
+returns-else-is_due-clause-after g c =
+    let e = c.args.exec.now in
+    let m = c.shown-shown.ensures in
+    after-line e.plan e.db e.taken c.args.self.now c.shown-shown.new.self m.same m.bounding c.in-Some.every c.next_look-self.result c.shown-shown.result c.requires.before c.in-Some.is m.moment
+    c.next_look-self.ensures

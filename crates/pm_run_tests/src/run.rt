@@ -1,0 +1,341 @@
+//! Runs by turns, with ample memory, compared with whole runs and with texts that an independent model of the definitions gave.
+ghost use Rattle.std.specs.Prelude.{◌≡◌, ◌≤◌, IfOk, IfSome, Ok, true};
+ghost use Rattle.pm_run.specs.RunState.{CanTurn};
+ghost use Rattle.pm_commands.specs.Certified.{IsReady};
+
+use pm_commands::{Prepared, prepare};
+use pm_exec::{key_columns, seek_indexes};
+use pm_io::{MemFiles, MemSink};
+use pm_lines::LineBad;
+use pm_plan::Whole;
+use pm_run::{Run, Turn, run_all};
+use pm_values::{OpenGate, Txt};
+use std::alloc::{AllocError, Global};
+use std::marker::Sync;
+use std::process::Abort;
+use std::test::Fail;
+use std::thread::Threads;
+
+const SCHEMA: &str =
+    "TABLE cust FROM 'cust.csv' (id INT NOT NULL, name TEXT NOT NULL, KEY (id), ORDER (id));\n\
+TABLE ord FROM 'ord.csv' (id INT NOT NULL, cust INT, amt NUM(2), KEY (id), ORDER (cust));\n\
+TABLE visit FROM 'visit.csv' (cust INT NOT NULL);\n";
+
+const FILES: [(&str, &str); 3] = [
+    ("cust.csv", "id,name\n1,Ann\n2,Bob\n4,Dan\n"),
+    ("ord.csv", "id,cust,amt\n7,1,2.50\n8,1,\n5,2,10\n6,3,0.25\n"),
+    ("visit.csv", "cust\n"),
+];
+
+const ORDERS: &str = "SELECT o.id, c.name FROM ord o JOIN cust c ON o.cust = c.id";
+
+const GROUPS: &str =
+    "SELECT c.name, COUNT(*), SUM(o.amt) FROM cust c LEFT JOIN ord o ON c.id = o.cust GROUP BY c.name ORDER BY c.name DESC";
+
+const VISITS: &str = "SELECT o.id, v.cust FROM ord o JOIN visit v ON o.cust = v.cust";
+
+const MERGED: &str =
+    "N 1 project 2\nN 2 merge 3 4 unique=right\nN 3 scan ord o\nN 4 scan cust c\nH id,name\n\
+P work=1 lo=7 hi=15 dne=1/7 safe=1/10 pmax=1/7 pct=6.66..14.29\n\
+P work=2 lo=9 hi=15 dne=2/7 safe=2/11 pmax=2/9 pct=13.33..22.23\n\
+P work=3 lo=9 hi=15 dne=3/7 safe=3/11 pmax=3/9 pct=20.00..33.34\n\
+P work=4 lo=9 hi=15 dne=3/7 safe=4/11 pmax=4/9 pct=26.66..44.45\nR 7,Ann\n\
+P work=5 lo=9 hi=15 dne=3/7 safe=5/11 pmax=5/9 pct=33.33..55.56\n\
+P work=6 lo=11 hi=15 dne=4/7 safe=6/12 pmax=6/11 pct=40.00..54.55\n\
+P work=7 lo=11 hi=15 dne=4/7 safe=7/12 pmax=7/11 pct=46.66..63.64\nR 8,Ann\n\
+P work=8 lo=11 hi=15 dne=4/7 safe=8/12 pmax=8/11 pct=53.33..72.73\n\
+P work=9 lo=13 hi=15 dne=5/7 safe=9/13 pmax=9/13 pct=60.00..69.24\n\
+P work=10 lo=13 hi=15 dne=6/7 safe=10/13 pmax=10/13 pct=66.66..76.93\n\
+P work=11 lo=13 hi=15 dne=6/7 safe=11/13 pmax=11/13 pct=73.33..84.62\nR 5,Bob\n\
+P work=12 lo=13 hi=15 dne=6/7 safe=12/13 pmax=12/13 pct=80.00..92.31\n\
+P work=13 lo=13 hi=13 dne=7/7 safe=13/13 pmax=13/13 pct=100.00..100.00\nE rows=3 work=13\n";
+
+const HASHED: &str =
+    "N 1 project 2\nN 2 hash 3 4 unique=right\nN 3 scan ord o\nN 4 scan cust c\nH id,name\n\
+P work=5 lo=9 hi=15 dne=4/7 safe=5/11 pmax=5/9 pct=33.33..55.56\nR 7,Ann\nR 8,Ann\n\
+P work=10 lo=13 hi=15 dne=6/7 safe=10/13 pmax=10/13 pct=66.66..76.93\nR 5,Bob\n\
+P work=13 lo=13 hi=13 dne=7/7 safe=13/13 pmax=13/13 pct=100.00..100.00\nE rows=3 work=13\n";
+
+const LOOKED_UP: &str =
+    "N 1 project 2\nN 2 index 3 4\nN 3 scan ord o\nN 4 seek cust c unique=right\nH id,name\nR 7,Ann\nR 8,Ann\nR 5,Bob\n\
+P work=13 lo=13 hi=13 dne=4/4 safe=13/13 pmax=13/13 pct=100.00..100.00\nE rows=3 work=13\n";
+
+const GROUPED: &str =
+    "N 1 project 2\nN 2 sort 3\nN 3 group 4\nN 4 lefthash 5 6 unique=left\nN 5 scan cust c\nN 6 scan ord o\n\
+H name,COUNT(*),SUM(o.amt)\nP work=5 lo=14 hi=31 dne=5/19 safe=5/20 pmax=5/14 pct=16.12..35.72\n\
+P work=10 lo=17 hi=20 dne=7/13 safe=10/18 pmax=10/17 pct=50.00..58.83\n\
+P work=15 lo=20 hi=20 dne=11/13 safe=15/20 pmax=15/20 pct=75.00..75.00\nR Dan,1,\nR Bob,1,10.00\nR Ann,2,2.50\n\
+P work=20 lo=20 hi=20 dne=13/13 safe=20/20 pmax=20/20 pct=100.00..100.00\nE rows=3 work=20\n";
+
+const NO_BUILD: &str =
+    "N 1 project 2\nN 2 hash 3 4 unique=none\nN 3 scan ord o\nN 4 scan visit v\nH id,cust\n\
+P work=1 lo=4 hi=4 dne=1/4 safe=1/4 pmax=1/4 pct=25.00..25.00\n\
+P work=2 lo=4 hi=4 dne=2/4 safe=2/4 pmax=2/4 pct=50.00..50.00\n\
+P work=3 lo=4 hi=4 dne=3/4 safe=3/4 pmax=3/4 pct=75.00..75.00\n\
+P work=4 lo=4 hi=4 dne=4/4 safe=4/4 pmax=4/4 pct=100.00..100.00\nE rows=0 work=4\n";
+
+const COLUMNS: &str =
+    "N 1 project 2\nN 2 scan ord ord\nH id,amt,cust\nR 7,2.50,1\nR 8,,1\nR 5,10.00,2\nR 6,0.25,3\nE rows=4 work=8\n";
+
+const EMPTY: &str = "N 1 project 2\nN 2 scan visit visit\nH cust\nE rows=0 work=0\n";
+
+/// A statement, the choice of its joins, after how many events a progress line comes, with 0 for none, and the text of its run.
+const CASES: [(&str, &str, u64, &str); 7] = [
+    (ORDERS, "merge", 1, MERGED),
+    (ORDERS, "hash", 5, HASHED),
+    (ORDERS, "index", 100, LOOKED_UP),
+    (GROUPS, "auto", 5, GROUPED),
+    (VISITS, "hash", 1, NO_BUILD),
+    ("SELECT id, amt, cust FROM ord", "auto", 0, COLUMNS),
+    ("SELECT cust FROM visit", "auto", 1, EMPTY),
+];
+
+/// A progress line after each so many events, or none for 0.
+fn each(events: u64) -> Option<u64>
+    ensures { IfSome result (λ n. 1 ≤ n) }
+{
+    if events == 0 { None } else { Some(events) }
+}
+
+/// The files of the schema and of the statement, and those of tables.
+fn files_of(
+    alloc: Global,
+    schema: &str,
+    query: &str,
+    tables: &[(&str, &str)],
+) -> Result<MemFiles, AllocError> {
+    let mut files = MemFiles::new(alloc);
+    files.put(&Txt::new(alloc, "s")?, schema.as_bytes())?;
+    files.put(&Txt::new(alloc, "q")?, query.as_bytes())?;
+    for (name, text) in tables {
+        files.put(&Txt::new(alloc, name)?, text.as_bytes())?;
+    }
+    Ok(files)
+}
+
+/// The plan and the tables of the statement, whose joins are of this choice.
+fn planned<R: Threads + Sync + Abort>(
+    rt: &R,
+    alloc: Global,
+    files: &mut MemFiles,
+    join: &str,
+) -> Result<Prepared, AllocError>
+    ensures { IfOk result IsReady }
+{
+    let mut words = Vec::new(alloc);
+    for word in ["run", "s", "q", "--join", join] {
+        words.push(Txt::new(alloc, word)?)?;
+    }
+    match prepare(rt, alloc, words.as_slice(), files, &OpenGate) {
+        Ok(prepared) => Ok(prepared),
+        Err(stop) => panic!(rt; "{stop:?}"),
+    }
+}
+
+/// Takes so many turns at most, and answers whether each of them took an event.
+fn turns(run: &mut Run<'_>, sink: &mut MemSink, count: u32) -> Result<bool, LineBad>
+    requires { CanTurn run.old.stage }
+    ensures { result ≡ Ok true → CanTurn run.new.stage }
+{
+    'turns: for _ in 0..count {
+        match run.turn(sink)? {
+            Turn::Went => {}
+            Turn::Ended => return Ok(false),
+        }
+    }
+    Ok(true)
+}
+
+/// Takes the turns of a run one by one, up to a thousand, and answers what they write.
+fn by_turns(
+    rt: &impl Abort,
+    alloc: Global,
+    prepared: &Prepared,
+    every: u64,
+) -> Result<MemSink, LineBad>
+    requires { IsReady prepared.now }
+{
+    let (plan, db) = (&prepared.plan, &prepared.request.db);
+    let keys = key_columns(alloc, plan)?;
+    let indexes = seek_indexes(alloc, plan, db, &keys)?;
+    let mut run = Run::begin(alloc, plan, db, &keys, &indexes, each(every))?;
+    let mut sink = MemSink::new(alloc, 65536)?;
+    run.head(&mut sink)?;
+    'events: for taken in 0..1000u32 {
+        assert_eq!(rt; run.events(), u128::from(taken));
+        if !turns(&mut run, &mut sink, 1)? {
+            break 'events;
+        }
+    }
+    let end = format!(in alloc; "E rows={} work={}\n", run.rows(), run.events())?;
+    assert!(rt; sink.bytes().ends_with(end.as_bytes()));
+    Ok(sink)
+}
+
+/// What a whole run writes.
+fn at_once(alloc: Global, prepared: &Prepared, every: u64) -> Result<MemSink, LineBad>
+    requires { IsReady prepared.now }
+{
+    let mut sink = MemSink::new(alloc, 65536)?;
+    let db = &prepared.request.db;
+    run_all(alloc, &prepared.plan, db, each(every), &mut sink)?;
+    Ok(sink)
+}
+
+/// What is written, with ample memory and into a sink with room.
+fn written(rt: &impl Abort, sink: Result<MemSink, LineBad>) -> MemSink {
+    match sink {
+        Ok(sink) => sink,
+        Err(fault) => panic!(rt; "{fault:?}"),
+    }
+}
+
+#[test]
+fn turns_write_what_whole_runs_write(rt: HostRuntime) -> Result<(), Fail> {
+    let alloc: Global = rt.alloc();
+    for (query, join, shown, text) in CASES {
+        let mut files = files_of(alloc, SCHEMA, query, &FILES)?;
+        let prepared = planned(&rt, alloc, &mut files, join)?;
+        let whole = written(&rt, by_turns(&rt, alloc, &prepared, shown));
+        assert_eq!(rt; whole.bytes(), text.as_bytes(), "{query}");
+        for every in [0, 1, 2, 5, 100] {
+            let turned = written(&rt, by_turns(&rt, alloc, &prepared, every));
+            let whole = written(&rt, at_once(alloc, &prepared, every));
+            assert_eq!(rt; turned.bytes(), whole.bytes(), "{query}");
+        }
+    }
+    Ok(())
+}
+
+/// Where a run stands: its events, the rows that the root handed out, and the work done with the bounds of the whole work.
+type Stand = (u128, u128, Whole);
+
+/// Where a run stands after so many turns, and what they wrote.
+fn after_turns(
+    alloc: Global,
+    prepared: &Prepared,
+    every: u64,
+    count: u32,
+) -> Result<(Stand, MemSink), LineBad>
+    requires { IsReady prepared.now }
+{
+    let (plan, db) = (&prepared.plan, &prepared.request.db);
+    let keys = key_columns(alloc, plan)?;
+    let indexes = seek_indexes(alloc, plan, db, &keys)?;
+    let mut run = Run::begin(alloc, plan, db, &keys, &indexes, each(every))?;
+    let mut sink = MemSink::new(alloc, 1_000_000)?;
+    run.head(&mut sink)?;
+    turns(&mut run, &mut sink, count)?;
+    let stand = (run.events(), run.rows(), run.whole());
+    Ok((stand, sink))
+}
+
+#[test]
+fn runs_tell_where_they_stand(rt: HostRuntime) -> Result<(), Fail> {
+    let alloc: Global = rt.alloc();
+    for (join, count, rows, lo, hi) in [
+        ("merge", 1, 0, 7, 15),
+        ("merge", 7, 1, 11, 15),
+        ("merge", 20, 3, 13, 13),
+        ("hash", 1, 0, 7, 15),
+        ("hash", 7, 1, 11, 15),
+        ("index", 1, 0, 5, 16),
+        ("index", 7, 1, 10, 16),
+    ] {
+        let mut files = files_of(alloc, SCHEMA, ORDERS, &FILES)?;
+        let prepared = planned(&rt, alloc, &mut files, join)?;
+        let work = u128::from(count.min(13u32));
+        for every in [0, 1, 5] {
+            match after_turns(alloc, &prepared, every, count) {
+                Ok((stand, _)) => {
+                    assert_eq!(rt; stand, (work, rows, Whole { work, lo, hi }), "{join}");
+                }
+                Err(fault) => panic!(rt; "{fault:?}"),
+            }
+        }
+    }
+    Ok(())
+}
+
+/// So many texts with a comma between them, each a number from 0 between these pieces.
+fn listed(alloc: Global, before: &str, after: &str, count: u32) -> Result<String, AllocError> {
+    let mut text = String::new(alloc);
+    for number in 0..count {
+        if number > 0 {
+            text.push_str(",")?;
+        }
+        text.push_str(format!(in alloc; "{before}{number}{after}")?.as_str())?;
+    }
+    Ok(text)
+}
+
+#[test]
+fn a_row_has_64_columns(rt: HostRuntime) -> Result<(), Fail> {
+    let alloc: Global = rt.alloc();
+    let names = listed(alloc, "c", "", 64)?;
+    let values = listed(alloc, "", "", 64)?;
+    let columns = listed(alloc, "c", " INT", 64)?;
+    let schema = format!(in alloc; "TABLE wide FROM 'wide.csv' ({});", columns.as_str())?;
+    let query = format!(in alloc; "SELECT {} FROM wide", names.as_str())?;
+    let records = format!(in alloc; "{}\n{}\n", names.as_str(), values.as_str())?;
+    let tables = [("wide.csv", records.as_str())];
+    let mut files = files_of(alloc, schema.as_str(), query.as_str(), &tables)?;
+    let prepared = planned(&rt, alloc, &mut files, "auto")?;
+    let sink = written(&rt, by_turns(&rt, alloc, &prepared, 0));
+    let text = format!(in alloc;
+        "N 1 project 2\nN 2 scan wide wide\nH {}\nR {}\nE rows=1 work=2\n",
+        names.as_str(),
+        values.as_str()
+    )?;
+    assert_eq!(rt; sink.bytes(), text.as_bytes());
+    Ok(())
+}
+
+const CHAINED: &str =
+    "SELECT z.n FROM one w JOIN one x ON x.n = w.n JOIN one y ON y.n = x.n JOIN one z ON z.n = y.n";
+
+const CHAIN: &str =
+    "N 1 project 2\nN 2 hash 3 8 unique=none\nN 3 hash 4 7 unique=none\nN 4 hash 5 6 unique=none\n\
+N 5 scan one w\nN 6 scan one x\nN 7 scan one y\nN 8 scan one z\nH n\n";
+
+/// This text so many times.
+fn repeated(alloc: Global, piece: &str, count: u32) -> Result<String, AllocError> {
+    let mut text = String::new(alloc);
+    for _ in 0..count {
+        text.push_str(piece)?;
+    }
+    Ok(text)
+}
+
+/// Four times a thousand equal rows are joined, so the whole work is of two million million events. The first turns take
+/// their events and no more.
+#[test]
+fn turns_of_a_long_run_take_their_events_alone(rt: HostRuntime) -> Result<(), Fail> {
+    let alloc: Global = rt.alloc();
+    let schema = "TABLE one FROM 'one.csv' (n INT NOT NULL);";
+    let records = format!(in alloc; "n\n{}", repeated(alloc, "1\n", 1000)?.as_str())?;
+    let mut files = files_of(alloc, schema, CHAINED, &[("one.csv", records.as_str())])?;
+    let prepared = planned(&rt, alloc, &mut files, "hash")?;
+    let whole = Whole {
+        work: 5000,
+        lo: 8000,
+        hi: 2_001_001_004_000,
+    };
+    for every in [0, 1, 5000] {
+        match after_turns(alloc, &prepared, every, 5000) {
+            Ok((stand, sink)) => {
+                assert_eq!(rt; stand, (5000, 998, whole));
+                if every == 5000 {
+                    let rows = repeated(alloc, "R 1\n", 998)?;
+                    let text = format!(in alloc;
+                        "{CHAIN}{}P work=5000 lo=8000 hi=2001001004000 ",
+                        rows.as_str()
+                    )?;
+                    assert!(rt; sink.bytes().starts_with(text.as_bytes()));
+                }
+            }
+            Err(fault) => panic!(rt; "{fault:?}"),
+        }
+    }
+    Ok(())
+}
