@@ -275,7 +275,11 @@ fn groups_many_rows(rt: HostRuntime) -> Result<(), Fail> {
 }
 
 /// Rows of a fixed sequence: one number in six is NULL, the others are -2 to 2, and the texts are three.
-fn drawn(alloc: Global, seed: u32, count: u32) -> Result<Vec<(Option<i64>, &'static str)>, AllocError>
+fn drawn(
+    alloc: Global,
+    seed: u32,
+    count: u32,
+) -> Result<Vec<(Option<i64>, &'static str)>, AllocError>
     ensures { IfOk result (λ list. length list.items ≡ count) }
 {
     let mut state = seed;
@@ -375,11 +379,14 @@ fn group_text(
     row: (Option<i64>, &str),
 ) -> Result<String, AllocError> {
     let (mut all, mut count, mut sum) = (0u32, 0u32, None);
-    let (mut least, mut most, mut text) = (None, None, "");
+    let (mut least, mut most) = (None, None);
+    let mut text = String::new(alloc);
     for other in list {
         if same_group(by, row, *other) {
             all = all.saturating_add(1);
-            text = if other.1 > text { other.1 } else { text };
+            if other.1 > text.as_str() {
+                text = String::from_str(alloc, other.1)?;
+            }
             if let Some(n) = other.0 {
                 count = count.saturating_add(1);
                 sum = Some(sum.unwrap_or(0i64).saturating_add(n));
@@ -414,7 +421,11 @@ fn groups_drawn_lists(rt: HostRuntime) -> Result<(), Fail> {
                     expected.push_str(group_text(alloc, by, list.as_slice(), *row)?.as_str())?;
                 }
             }
-            assert_eq!(rt; groups(alloc, by, &rows)?.as_str(), expected.as_str(), "{seed} {by:?}");
+            assert_eq!(rt;
+                groups(alloc, by, &rows)?.as_str(),
+                expected.as_str(),
+                "{seed} {by:?}"
+            );
         }
     }
     Ok(())
