@@ -1,5 +1,8 @@
-use crate::{Role, Status, monitor_main};
-use pm_io::{MemFiles, MemSink};
+mod edges;
+mod faults;
+
+use crate::{Status, monitor_main};
+use pm_io::{MemFiles, MemSink, Sink};
 use pm_values::{OpenGate, Txt};
 use std::alloc::{AllocError, Global};
 use std::marker::Sync;
@@ -80,12 +83,12 @@ fn shop(alloc: Global, query: &str, items: &str) -> Result<MemFiles, AllocError>
 }
 
 /// The command of these words, parted by blanks.
-fn command<R: Threads + Sync>(
+fn command<R: Threads + Sync, S: Sink>(
     rt: &R,
     alloc: Global,
     words: &str,
     files: &mut MemFiles,
-    out: &mut MemSink,
+    out: &mut S,
 ) -> Result<Status, AllocError> {
     let mut list = Vec::new(alloc);
     for word in words.split_whitespace() {
@@ -147,42 +150,6 @@ fn commands_write_their_text(rt: HostRuntime) -> Result<(), Fail> {
         let status = command(&rt, alloc, words, &mut files, &mut out)?;
         assert_eq!(rt; status.code(), code, "{words}");
         assert_eq!(rt; out.bytes(), text.as_bytes(), "{words}");
-    }
-    Ok(())
-}
-
-#[test]
-fn faults_in_turn(rt: HostRuntime) -> Result<(), Fail> {
-    let alloc: Global = rt.alloc();
-    for write in 1..24 {
-        let mut files = shop(alloc, QUERY, ITEMS)?;
-        files.piece(1);
-        let mut out = MemSink::new(alloc, 4096)?;
-        out.fail_at(write)?;
-        let status = command(&rt, alloc, "run s q", &mut files, &mut out)?;
-        assert_eq!(rt; status, Status::WriteFault);
-        assert!(rt; WHOLE.as_bytes().starts_with(out.bytes()));
-    }
-    let mut files = shop(alloc, QUERY, ITEMS)?;
-    let mut out = MemSink::new(alloc, 4096)?;
-    out.fail_finish();
-    assert_eq!(rt;
-        command(&rt, alloc, "run s q", &mut files, &mut out)?,
-        Status::WriteFault
-    );
-    assert_eq!(rt; out.bytes(), WHOLE.as_bytes());
-    for (call, role, line) in [
-        (1, Role::Schema, "! 7 read s\n"),
-        (4, Role::Query, "! 7 read q\n"),
-        (7, Role::Table(1), "! 7 read sale.csv\n"),
-        (12, Role::Table(0), "! 7 read item.csv\n"),
-    ] {
-        let mut files = shop(alloc, QUERY, ITEMS)?;
-        files.fail_at(call)?;
-        let mut out = MemSink::new(alloc, 4096)?;
-        let status = command(&rt, alloc, "run s q", &mut files, &mut out)?;
-        assert_eq!(rt; status, Status::ReadFault { role }, "{call}");
-        assert_eq!(rt; out.bytes(), line.as_bytes());
     }
     Ok(())
 }

@@ -8,6 +8,7 @@ use pm_blocks::{GroupCore, SortCore};
 use pm_plan::{Aggregate, Aggregates, SortKey, SortKeys};
 use pm_values::{Columns, Row, Rows, Txt, Value};
 use std::alloc::{AllocError, Global};
+use std::cmp::Ordering;
 use std::test::Fail;
 
 /// A row of a number, NULL where there is none, and a text.
@@ -154,13 +155,33 @@ fn take_all(core: &mut GroupCore, rows: &Rows) -> Result<(), AllocError>
     Ok(())
 }
 
-/// The groups of rows by their texts, or together: how many rows and numbers they are, the sum, the least and the greatest
-/// number, and the greatest text.
-fn groups(alloc: Global, by_text: bool, rows: &Rows) -> Result<String, AllocError>
+/// By which columns rows are grouped.
+#[derive(Clone, Copy, Debug, PartialEq)]
+enum By {
+    Nothing,
+    Number,
+    Text,
+    Both,
+}
+
+fn key_columns(alloc: Global, by: By) -> Result<Columns, AllocError>
+    ensures within { IfOk result (λ keys. AllBelow keys 2) }
+    ensures few { IfOk result (λ keys. length keys ≤ 2) }
+{
+    match by {
+        By::Nothing => Columns::from_slice(alloc, &[]),
+        By::Number => Columns::from_slice(alloc, &[0]),
+        By::Text => Columns::from_slice(alloc, &[1]),
+        By::Both => Columns::from_slice(alloc, &[0, 1]),
+    }
+}
+
+/// The groups of rows: how many rows and numbers they are, the sum, the least and the greatest number, and the greatest text.
+fn groups(alloc: Global, by: By, rows: &Rows) -> Result<String, AllocError>
     requires pairs { All (λ row. (length row ≡ 2) × IsShort (cell row 0)) rows.now }
     requires few { length rows.now ≤ 1000 }
 {
-    let keys = Columns::from_slice(alloc, if by_text { &[1] } else { &[] })?;
+    let keys = key_columns(alloc, by)?;
     let items = [
         Aggregate::CountAll,
         Aggregate::Count(0),
@@ -211,16 +232,16 @@ fn groups_small_lists(rt: HostRuntime) -> Result<(), Fail> {
     let rows = rows(alloc, &list)?;
     let none = Rows::new(alloc);
     assert_eq!(rt;
-        groups(alloc, true, &rows)?.as_str(),
+        groups(alloc, By::Text, &rows)?.as_str(),
         "'b' 3 3 18446744073709551621 7 9223372036854775807 'b' / 'a' 2 1 3 3 3 'a' / '' 1 0 null null null '' / "
     );
     assert_eq!(rt;
-        groups(alloc, false, &rows)?.as_str(),
+        groups(alloc, By::Nothing, &rows)?.as_str(),
         "6 4 18446744073709551624 3 9223372036854775807 'b' / "
     );
-    assert_eq!(rt; groups(alloc, true, &none)?.as_str(), "");
+    assert_eq!(rt; groups(alloc, By::Text, &none)?.as_str(), "");
     assert_eq!(rt;
-        groups(alloc, false, &none)?.as_str(),
+        groups(alloc, By::Nothing, &none)?.as_str(),
         "0 0 null null null null / "
     );
     Ok(())
@@ -249,6 +270,163 @@ fn groups_many_rows(rt: HostRuntime) -> Result<(), Fail> {
         )?;
         expected.push_str(line.as_str())?;
     }
-    assert_eq!(rt; groups(alloc, true, &rows)?.as_str(), expected.as_str());
+    assert_eq!(rt; groups(alloc, By::Text, &rows)?.as_str(), expected.as_str());
+    Ok(())
+}
+
+/// Rows of a fixed sequence: one number in six is NULL, the others are -2 to 2, and the texts are three.
+fn drawn(
+    alloc: Global,
+    seed: u32,
+    count: u32,
+) -> Result<Vec<(Option<i64>, &'static str)>, AllocError>
+    ensures { IfOk result (λ list. length list.items ≡ count) }
+{
+    let mut state = seed;
+    let mut list = Vec::new(alloc);
+    for _ in 0..count {
+        state = state.wrapping_mul(1_664_525).wrapping_add(1_013_904_223);
+        let number = match (state >> 16) % 6 {
+            0 => None,
+            n => Some(i64::from(n) - 3),
+        };
+        let text = match (state >> 24) % 3 {
+            0 => "",
+            1 => "a",
+            _ => "b",
+        };
+        list.push((number, text))?;
+    }
+    Ok(list)
+}
+
+/// Whether a row stands before another one by these keys, or by its number where they are equal.
+fn stands_before(
+    keys: &[(bool, bool)],
+    list: &[(Option<i64>, &str)],
+    one: usize,
+    other: usize,
+) -> bool
+    requires one { one < length list.now }
+    requires other { other < length list.now }
+{
+    for (second, descending) in keys {
+        let order = if *second {
+            list[one].1.cmp(list[other].1)
+        } else {
+            list[one].0.cmp(&list[other].0)
+        };
+        match order {
+            Ordering::Less => return !*descending,
+            Ordering::Greater => return *descending,
+            Ordering::Equal => {}
+        }
+    }
+    one < other
+}
+
+#[test]
+fn sorts_drawn_lists(rt: HostRuntime) -> Result<(), Fail> {
+    let alloc = rt.alloc();
+    let cases: [&[(bool, bool)]; 5] = [
+        &[(false, false)],
+        &[(false, true)],
+        &[(true, false), (false, true)],
+        &[(false, true), (true, true)],
+        &[(true, true)],
+    ];
+    for seed in 0..40u32 {
+        let list = drawn(alloc, seed, seed)?;
+        let rows = rows(alloc, list.as_slice())?;
+        for case in cases {
+            let numbers = sorted(alloc, &keys(alloc, case)?, &rows)?;
+            assert_eq!(rt; numbers.len(), list.len());
+            for one in 0..list.len() {
+                let mut place: usize = 0;
+                for other in 0..list.len() {
+                    if stands_before(case, list.as_slice(), other, one) {
+                        place = place.saturating_add(1);
+                    }
+                }
+                assert_eq!(rt; numbers.get(place), Some(&(one as u64)), "{seed}");
+            }
+        }
+    }
+    Ok(())
+}
+
+fn same_group(by: By, one: (Option<i64>, &str), other: (Option<i64>, &str)) -> bool {
+    match by {
+        By::Nothing => true,
+        By::Number => one.0 == other.0,
+        By::Text => one.1 == other.1,
+        By::Both => one.0 == other.0 && one.1 == other.1,
+    }
+}
+
+fn number_text(alloc: Global, number: Option<i64>) -> Result<String, AllocError> {
+    match number {
+        Some(n) => format!(in alloc; "{n} "),
+        None => format!(in alloc; "null "),
+    }
+}
+
+/// The group of this row, with a line behind it.
+fn group_text(
+    alloc: Global,
+    by: By,
+    list: &[(Option<i64>, &str)],
+    row: (Option<i64>, &str),
+) -> Result<String, AllocError> {
+    let (mut all, mut count, mut sum) = (0u32, 0u32, None);
+    let (mut least, mut most) = (None, None);
+    let mut text = String::new(alloc);
+    for other in list {
+        if same_group(by, row, *other) {
+            all = all.saturating_add(1);
+            if other.1 > text.as_str() {
+                text = String::from_str(alloc, other.1)?;
+            }
+            if let Some(n) = other.0 {
+                count = count.saturating_add(1);
+                sum = Some(sum.unwrap_or(0i64).saturating_add(n));
+                least = Some(least.unwrap_or(n).min(n));
+                most = Some(most.unwrap_or(n).max(n));
+            }
+        }
+    }
+    let number = number_text(alloc, row.0)?;
+    let key = match by {
+        By::Nothing => String::new(alloc),
+        By::Number => number,
+        By::Text => format!(in alloc; "'{}' ", row.1)?,
+        By::Both => format!(in alloc; "{number}'{}' ", row.1)?,
+    };
+    let sum = number_text(alloc, sum)?;
+    let least = number_text(alloc, least)?;
+    let most = number_text(alloc, most)?;
+    format!(in alloc; "{key}{all} {count} {sum}{least}{most}'{text}' / ")
+}
+
+#[test]
+fn groups_drawn_lists(rt: HostRuntime) -> Result<(), Fail> {
+    let alloc = rt.alloc();
+    for seed in 1..60u32 {
+        let list = drawn(alloc, seed, seed)?;
+        let rows = rows(alloc, list.as_slice())?;
+        for by in [By::Nothing, By::Number, By::Text, By::Both] {
+            let mut expected = String::new(alloc);
+            for (at, row) in list.iter().enumerate() {
+                if !list[..at].iter().any(|other| same_group(by, *row, *other)) {
+                    expected.push_str(group_text(alloc, by, list.as_slice(), *row)?.as_str())?;
+                }
+            }
+            assert_eq!(rt;
+                groups(alloc, by, &rows)?.as_str(),
+                expected.as_str(),
+                "{seed} {by:?}"
+            );
+        }
+    }
     Ok(())
 }
