@@ -4,7 +4,7 @@ ghost use Rattle.pm_run.specs.RunState.{CanTurn};
 ghost use Rattle.pm_commands.specs.Certified.{IsReady};
 
 use pm_commands::{Prepared, prepare};
-use pm_exec::{key_columns, seek_indexes};
+use pm_flows::{key_columns, seek_indexes};
 use pm_io::{MemFiles, MemSink};
 use pm_lines::LineBad;
 use pm_plan::Whole;
