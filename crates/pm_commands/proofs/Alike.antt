@@ -16,7 +16,7 @@ use Rattle.pm_build.specs.declared.building.BuildBad.{BuildBad}
 use Rattle.pm_build.specs.declared.building.BuildBad.TheVariants as bad
 use Rattle.pm_build.specs.Built.{built, plan_unless}
 use Rattle.pm_lines.specs.Rows.{head_line}
-use Rattle.pm_run.specs.Pieces.{Piece, HeadLine, row_piece, pieces, lasting, answering, output_pieces}
+use Rattle.pm_run.specs.Pieces.{HeadLine, row_piece, lasting}
 use Rattle.pm_run.proofs.Pieces.{lasting-same, answering-whole}
 use Rattle.pm_words.specs.declared.settings.Settings.{Settings}
 use Rattle.pm_words.specs.declared.settings.Settings.TheVariants as settings
@@ -37,7 +37,7 @@ use Rattle.pm_commands.specs.declared.preparing.Prepared.{Prepared}
 use Rattle.pm_commands.specs.Commands.{command_of, every_of}
 use Rattle.pm_commands.specs.Calls.{Asks, CallsBy, Calls, planned, prepared}
 use Rattle.pm_commands.specs.Certified.{IsReady}
-use Rattle.pm_commands.specs.Alike.{AreCalls, DifferInProgress, DifferInJoin, DifferInWorkers, AreAlike, Alike, AlikeUnlessWide}
+use Rattle.pm_commands.specs.Alike.{AreCalls, DifferInProgress, DifferInJoin, DifferInWorkers, Alike, AlikeUnlessWide}
 use Rattle.pm_commands.proofs.PlanKinds.{plan_kinds}
 
 -- what is answered with a request, or with what refuses it: of the command this reads the output and the choice of joins alone
