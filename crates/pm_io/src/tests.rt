@@ -1,3 +1,5 @@
+mod os_files;
+
 use super::*;
 use pm_values::Txt;
 use std::fs;
