@@ -1,6 +1,6 @@
 use crate::{OsFiles, ReadOut, read_whole};
 use pm_values::Txt;
-use std::alloc::Allocator;
+use std::alloc::{Allocator, Global};
 use std::fs::{Metadata, OpenFile, OpenOptions};
 use std::io;
 use std::io::{ErrorKind, Read, Seek, SeekFrom, Write};
@@ -42,7 +42,7 @@ impl Read for SlowFile {
 
 impl Write for SlowFile {
     fn write(&mut self, _piece: &[u8]) -> io::Result<usize> {
-        unsupported()
+        Err(io::Error::from(ErrorKind::Unsupported))
     }
 
     fn flush(&mut self) -> io::Result<()> {
@@ -137,14 +137,18 @@ impl Files for SlowSystem {
     }
 }
 
+/// The bytes of a file of this system, of three at most.
+fn bytes_of<R: Files>(alloc: Global, system: &R) -> Result<Vec<u8>, ReadOut> {
+    let mut files = OsFiles::new(system);
+    read_whole(alloc, &mut files, Txt::new(alloc, "f")?, 3)
+}
+
 #[test]
 fn interrupted_reads_are_made_again(rt: HostRuntime) -> Result<(), Fail> {
     // Reads 1, 3 and 5 give a byte each, and 7 finds the end; 2, 4 and 6 are interrupted.
     for fails in 0..9u64 {
         let system = SlowSystem { fails };
-        let mut files = OsFiles::new(&system);
-        let name = Txt::new(rt.alloc(), "f")?;
-        match read_whole(rt.alloc(), &mut files, name, 3) {
+        match bytes_of(rt.alloc(), &system) {
             Ok(bytes) => {
                 assert!(rt; fails == 0 || fails > 7);
                 assert_eq!(rt; bytes.as_slice(), b"abc".as_slice());
