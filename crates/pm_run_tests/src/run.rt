@@ -1,15 +1,17 @@
 //! Runs by turns, with ample memory, compared with whole runs and with texts that an independent model of the definitions gave.
-ghost use Rattle.std.specs.Prelude.{◌≡◌, ◌≤◌, IfOk, IfSome, Ok, true};
-ghost use Rattle.pm_run.specs.RunState.{CanTurn};
+ghost use Rattle.std.specs.Prelude.{◌≡◌, ◌≤◌, map, IfOk, IfSome};
+ghost use Rattle.pm_work.specs.Fits.{Fits};
+ghost use Rattle.pm_flows.specs.Indexes.{index_of};
+ghost use Rattle.pm_flows.specs.KeyColumns.{join_columns};
 ghost use Rattle.pm_commands.specs.Certified.{IsReady};
 
 use pm_commands::{Prepared, prepare};
-use pm_flows::{key_columns, seek_indexes};
+use pm_flows::{Indexes, KeyColumns, key_columns, seek_indexes};
 use pm_io::{MemFiles, MemSink};
 use pm_lines::LineBad;
-use pm_plan::Whole;
+use pm_plan::{Plan, Whole};
 use pm_run::{Run, Turn, run_all};
-use pm_values::{OpenGate, Txt};
+use pm_values::{Db, OpenGate, Txt};
 use std::alloc::{AllocError, Global};
 use std::marker::Sync;
 use std::process::Abort;
@@ -80,15 +82,17 @@ const COLUMNS: &str =
 const EMPTY: &str = "N 1 project 2\nN 2 scan visit visit\nH cust\nE rows=0 work=0\n";
 
 /// A statement, the choice of its joins, after how many events a progress line comes, with 0 for none, and the text of its run.
-const CASES: [(&str, &str, u64, &str); 7] = [
-    (ORDERS, "merge", 1, MERGED),
-    (ORDERS, "hash", 5, HASHED),
-    (ORDERS, "index", 100, LOOKED_UP),
-    (GROUPS, "auto", 5, GROUPED),
-    (VISITS, "hash", 1, NO_BUILD),
-    ("SELECT id, amt, cust FROM ord", "auto", 0, COLUMNS),
-    ("SELECT cust FROM visit", "auto", 1, EMPTY),
-];
+fn cases() -> [(&'static str, &'static str, u64, &'static str); 7] {
+    [
+        (ORDERS, "merge", 1, MERGED),
+        (ORDERS, "hash", 5, HASHED),
+        (ORDERS, "index", 100, LOOKED_UP),
+        (GROUPS, "auto", 5, GROUPED),
+        (VISITS, "hash", 1, NO_BUILD),
+        ("SELECT id, amt, cust FROM ord", "auto", 0, COLUMNS),
+        ("SELECT cust FROM visit", "auto", 1, EMPTY),
+    ]
+}
 
 /// A progress line after each so many events, or none for 0.
 fn each(events: u64) -> Option<u64>
@@ -132,60 +136,72 @@ fn planned<R: Threads + Sync + Abort>(
     }
 }
 
-/// Takes so many turns at most, and answers whether each of them took an event.
-fn turns(run: &mut Run<'_>, sink: &mut MemSink, count: u32) -> Result<bool, LineBad>
-    requires { CanTurn run.old.stage }
-    ensures { result ≡ Ok true → CanTurn run.new.stage }
-{
-    'turns: for _ in 0..count {
-        match run.turn(sink)? {
-            Turn::Went => {}
-            Turn::Ended => return Ok(false),
-        }
-    }
-    Ok(true)
-}
+/// Where a run stands: its events, the rows that the root handed out, and the work done with the bounds of the whole work.
+type Stand = (u128, u128, Whole);
 
-/// Takes the turns of a run one by one, up to a thousand, and answers what they write.
-fn by_turns(
+/// Takes so many turns of a run one by one, or all that are left: where it stands then, and what it wrote.
+fn turned(
     rt: &impl Abort,
     alloc: Global,
     prepared: &Prepared,
     every: u64,
-) -> Result<MemSink, LineBad>
+    count: u32,
+) -> Result<(Stand, MemSink), AllocError>
     requires { IsReady prepared.now }
 {
-    let (plan, db) = (&prepared.plan, &prepared.request.db);
+    let plan = &prepared.plan;
+    let db = &prepared.request.db;
     let keys = key_columns(alloc, plan)?;
     let indexes = seek_indexes(alloc, plan, db, &keys)?;
-    let mut run = Run::begin(alloc, plan, db, &keys, &indexes, each(every))?;
-    let mut sink = MemSink::new(alloc, 65536)?;
+    match turned_over(rt, alloc, plan, db, &keys, &indexes, each(every), count) {
+        Ok(found) => Ok(found),
+        Err(fault) => panic!(rt; "{fault:?}"),
+    }
+}
+
+/// The same, with the columns of the plan's keys and its indexes.
+fn turned_over(
+    rt: &impl Abort,
+    alloc: Global,
+    plan: &Plan,
+    db: &Db,
+    keys: &KeyColumns,
+    indexes: &Indexes<'_>,
+    every: Option<u64>,
+    count: u32,
+) -> Result<(Stand, MemSink), LineBad>
+    requires fits { Fits plan.now db.now }
+    requires keys { keys.now ≡ map join_columns plan.now.nodes }
+    requires indexes { indexes.now ≡ map (index_of db.now) plan.now.nodes }
+    requires every { IfSome every (λ n. 1 ≤ n) }
+{
+    let mut run = Run::begin(alloc, plan, db, keys, indexes, every)?;
+    let mut sink = MemSink::new(alloc, 1_000_000)?;
     run.head(&mut sink)?;
-    'events: for taken in 0..1000u32 {
+    'turns: for taken in 0..count {
         assert_eq!(rt; run.events(), u128::from(taken));
-        if !turns(&mut run, &mut sink, 1)? {
-            break 'events;
+        match run.turn(&mut sink)? {
+            Turn::Went => {}
+            Turn::Ended => break 'turns,
         }
     }
-    let end = format!(in alloc; "E rows={} work={}\n", run.rows(), run.events())?;
-    assert!(rt; sink.bytes().ends_with(end.as_bytes()));
-    Ok(sink)
+    let stand = (run.events(), run.rows(), run.whole());
+    Ok((stand, sink))
 }
 
 /// What a whole run writes.
-fn at_once(alloc: Global, prepared: &Prepared, every: u64) -> Result<MemSink, LineBad>
+fn at_once(
+    rt: &impl Abort,
+    alloc: Global,
+    prepared: &Prepared,
+    every: u64,
+) -> Result<MemSink, AllocError>
     requires { IsReady prepared.now }
 {
-    let mut sink = MemSink::new(alloc, 65536)?;
+    let mut sink = MemSink::new(alloc, 1_000_000)?;
     let db = &prepared.request.db;
-    run_all(alloc, &prepared.plan, db, each(every), &mut sink)?;
-    Ok(sink)
-}
-
-/// What is written, with ample memory and into a sink with room.
-fn written(rt: &impl Abort, sink: Result<MemSink, LineBad>) -> MemSink {
-    match sink {
-        Ok(sink) => sink,
+    match run_all(alloc, &prepared.plan, db, each(every), &mut sink) {
+        Ok(()) => Ok(sink),
         Err(fault) => panic!(rt; "{fault:?}"),
     }
 }
@@ -193,41 +209,18 @@ fn written(rt: &impl Abort, sink: Result<MemSink, LineBad>) -> MemSink {
 #[test]
 fn turns_write_what_whole_runs_write(rt: HostRuntime) -> Result<(), Fail> {
     let alloc: Global = rt.alloc();
-    for (query, join, shown, text) in CASES {
+    for (query, join, shown, text) in cases() {
         let mut files = files_of(alloc, SCHEMA, query, &FILES)?;
         let prepared = planned(&rt, alloc, &mut files, join)?;
-        let whole = written(&rt, by_turns(&rt, alloc, &prepared, shown));
-        assert_eq!(rt; whole.bytes(), text.as_bytes(), "{query}");
+        let (_, sink) = turned(&rt, alloc, &prepared, shown, 1000)?;
+        assert_eq!(rt; sink.bytes(), text.as_bytes(), "{query}");
         for every in [0, 1, 2, 5, 100] {
-            let turned = written(&rt, by_turns(&rt, alloc, &prepared, every));
-            let whole = written(&rt, at_once(alloc, &prepared, every));
-            assert_eq!(rt; turned.bytes(), whole.bytes(), "{query}");
+            let (_, sink) = turned(&rt, alloc, &prepared, every, 1000)?;
+            let whole = at_once(&rt, alloc, &prepared, every)?;
+            assert_eq!(rt; sink.bytes(), whole.bytes(), "{query}");
         }
     }
     Ok(())
-}
-
-/// Where a run stands: its events, the rows that the root handed out, and the work done with the bounds of the whole work.
-type Stand = (u128, u128, Whole);
-
-/// Where a run stands after so many turns, and what they wrote.
-fn after_turns(
-    alloc: Global,
-    prepared: &Prepared,
-    every: u64,
-    count: u32,
-) -> Result<(Stand, MemSink), LineBad>
-    requires { IsReady prepared.now }
-{
-    let (plan, db) = (&prepared.plan, &prepared.request.db);
-    let keys = key_columns(alloc, plan)?;
-    let indexes = seek_indexes(alloc, plan, db, &keys)?;
-    let mut run = Run::begin(alloc, plan, db, &keys, &indexes, each(every))?;
-    let mut sink = MemSink::new(alloc, 1_000_000)?;
-    run.head(&mut sink)?;
-    turns(&mut run, &mut sink, count)?;
-    let stand = (run.events(), run.rows(), run.whole());
-    Ok((stand, sink))
 }
 
 #[test]
@@ -246,12 +239,8 @@ fn runs_tell_where_they_stand(rt: HostRuntime) -> Result<(), Fail> {
         let prepared = planned(&rt, alloc, &mut files, join)?;
         let work = u128::from(count.min(13u32));
         for every in [0, 1, 5] {
-            match after_turns(alloc, &prepared, every, count) {
-                Ok((stand, _)) => {
-                    assert_eq!(rt; stand, (work, rows, Whole { work, lo, hi }), "{join}");
-                }
-                Err(fault) => panic!(rt; "{fault:?}"),
-            }
+            let (stand, _) = turned(&rt, alloc, &prepared, every, count)?;
+            assert_eq!(rt; stand, (work, rows, Whole { work, lo, hi }), "{join}");
         }
     }
     Ok(())
@@ -281,7 +270,7 @@ fn a_row_has_64_columns(rt: HostRuntime) -> Result<(), Fail> {
     let tables = [("wide.csv", records.as_str())];
     let mut files = files_of(alloc, schema.as_str(), query.as_str(), &tables)?;
     let prepared = planned(&rt, alloc, &mut files, "auto")?;
-    let sink = written(&rt, by_turns(&rt, alloc, &prepared, 0));
+    let (_, sink) = turned(&rt, alloc, &prepared, 0, 1000)?;
     let text = format!(in alloc;
         "N 1 project 2\nN 2 scan wide wide\nH {}\nR {}\nE rows=1 work=2\n",
         names.as_str(),
@@ -322,19 +311,15 @@ fn turns_of_a_long_run_take_their_events_alone(rt: HostRuntime) -> Result<(), Fa
         hi: 2_001_001_004_000,
     };
     for every in [0, 1, 5000] {
-        match after_turns(alloc, &prepared, every, 5000) {
-            Ok((stand, sink)) => {
-                assert_eq!(rt; stand, (5000, 998, whole));
-                if every == 5000 {
-                    let rows = repeated(alloc, "R 1\n", 998)?;
-                    let text = format!(in alloc;
-                        "{CHAIN}{}P work=5000 lo=8000 hi=2001001004000 ",
-                        rows.as_str()
-                    )?;
-                    assert!(rt; sink.bytes().starts_with(text.as_bytes()));
-                }
-            }
-            Err(fault) => panic!(rt; "{fault:?}"),
+        let (stand, sink) = turned(&rt, alloc, &prepared, every, 5000)?;
+        assert_eq!(rt; stand, (5000, 998, whole));
+        if every == 5000 {
+            let rows = repeated(alloc, "R 1\n", 998)?;
+            let text = format!(in alloc;
+                "{CHAIN}{}P work=5000 lo=8000 hi=2001001004000 ",
+                rows.as_str()
+            )?;
+            assert!(rt; sink.bytes().starts_with(text.as_bytes()));
         }
     }
     Ok(())
