@@ -6,7 +6,7 @@ ghost use Rattle.pm_estim.specs.Estimates.{shown_of};
 ghost use Rattle.pm_estim.specs.Lists.{driven_sum, estimated, AreOf};
 
 use crate::pipes::{Pipe, Pipes};
-use pm_fraction::root_floor;
+use pm_fraction::root_of_product;
 use pm_plan::{Bound, Gauge, Shown, Whole};
 
 /// What a progress line shows, in rows: the work and its bounds, dne over the driver nodes, and the lower side of safe,
@@ -25,17 +25,13 @@ fn shown_from(pipes: &[Pipe], gauges: &[Gauge], bounds: &[Bound], whole: &Whole)
     requires within { driven_sum (λ bound. bound.hi) pipes.now bounds.now < 2 ^ 128 }
     ensures { result ≡ estimated pipes.now gauges.now bounds.now whole.now }
 {
-    let safe_den = match whole.lo.checked_mul(whole.hi) {
-        Some(product) => Some(root_floor(product)),
-        None => None,
-    };
     Shown {
         work: whole.work,
         lo: whole.lo,
         hi: whole.hi,
         dne_num: handed_of_drivers(pipes, gauges),
         dne_den: hi_of_drivers(pipes, bounds),
-        safe_den,
+        safe_den: root_of_product(whole.lo, whole.hi),
     }
 }
 

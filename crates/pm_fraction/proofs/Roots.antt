@@ -7,7 +7,7 @@ square_rises : (g : ℕ) → (g + 1) * (g + 1) < (g + 1 + 1) * (g + 1 + 1)
 square_rises g = grind arith
 
 -- of two numbers the next square of the less is at most the square of the greater
-next_square_within : (g h : ℕ) → g < h → (g + 1) * (g + 1) ≤ h * h
+pub next_square_within : (g h : ℕ) → g < h → (g + 1) * (g + 1) ≤ h * h
 next_square_within g h less = grind arith
 
 -- the step of the function keeps the relation

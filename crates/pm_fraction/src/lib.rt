@@ -5,7 +5,7 @@
 
 pub use capped::{add_capped, mul_capped};
 pub use hundredths::{hundredths_down, hundredths_up};
-pub use root::root_floor;
+pub use root::root_of_product;
 
 mod capped;
 mod hundredths;
