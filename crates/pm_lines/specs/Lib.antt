@@ -3,3 +3,4 @@ pub mod Rows
 pub mod Progress
 pub mod Refusals
 pub mod Explained
+pub mod Plain

@@ -1,8 +1,9 @@
-ghost use Rattle.std.specs.Prelude.{◌≡◌, ◌≤◌, ◌++◌, map, Err, IfOk, OnOk, OnErr};
-ghost use Rattle.csv.specs.Writing.{default_writer, row_text};
+ghost use Rattle.std.specs.Prelude.{◌≡◌, ◌≤◌, ◌∷◌, ◌++◌, Err, IsTrue, IfOk, OnOk, OnErr};
+ghost use Rattle.csv.specs.Writing.{default_writer, needs_quotes, row_text};
 ghost use Rattle.pm_io.specs.Counts.{Rose};
 ghost use Rattle.pm_io.specs.Sink.{gained, GainsPart};
 ghost use Rattle.pm_lines.specs.Rows.{head_line, row_line};
+ghost use Rattle.pm_lines.specs.Plain.{IsPlain};
 
 use crate::fault::LineBad;
 use csv::WriterBuilder;
@@ -36,6 +37,50 @@ pub fn put_row<S: Sink>(alloc: Global, sink: &mut S, fields: &[Txt]) -> Result<(
 
 /// These bytes, and the fields as a CSV record after them.
 fn with_record(before: Vec<u8>, alloc: Global, fields: &[Txt]) -> Result<Vec<u8>, AllocError>
+    ensures { IfOk result (λ line. line.items ≡ before.items ++ row_text default_writer fields.now) }
+{
+    match fields.split_first() {
+        Some((first, rest)) if is_plain(first, rest) => with_plain(before, first, rest),
+        _ => with_quoted(before, alloc, fields),
+    }
+}
+
+/// Whether a record shows something and no field of it needs quotes. Most records are so, and making a writer of csv takes
+/// longer than writing one of them.
+fn is_plain(first: &Txt, rest: &[Txt]) -> bool
+    ensures { IsTrue result → IsPlain first.now rest.now }
+{
+    !first.bytes().is_empty()
+        && !needs_quotes(first)
+        && !rest.iter().any(|field| needs_quotes(field))
+}
+
+fn needs_quotes(field: &Txt) -> bool
+    ensures { result ≡ needs_quotes default_writer field.now }
+{
+    field
+        .bytes()
+        .iter()
+        .any(|byte| matches!(*byte, b',' | b'"' | b'\n' | b'\r'))
+}
+
+/// These bytes, and the fields with commas between them.
+fn with_plain(before: Vec<u8>, first: &Txt, rest: &[Txt]) -> Result<Vec<u8>, AllocError>
+    requires { IsPlain first.now rest.now }
+    ensures { IfOk result (λ line. line.items ≡ before.items ++ row_text default_writer (first.now ∷ rest.now)) }
+{
+    let mut line = before;
+    line.extend_from_slice(first.bytes())?;
+    for field in rest {
+        line.push(b',')?;
+        line.extend_from_slice(field.bytes())?;
+    }
+    line.push(b'\n')?;
+    Ok(line)
+}
+
+/// These bytes, and the fields as the writer of csv writes them.
+fn with_quoted(before: Vec<u8>, alloc: Global, fields: &[Txt]) -> Result<Vec<u8>, AllocError>
     ensures { IfOk result (λ line. line.items ≡ before.items ++ row_text default_writer fields.now) }
 {
     let mut cells = Vec::with_capacity(alloc, fields.len())?;

@@ -1,5 +1,5 @@
 use Rattle.std.proofs.Common.{◌≡◌, map, take}
-use Rattle.pm_lines.proofs.rows.with_record.Given as goal
+use Rattle.pm_lines.proofs.rows.with_quoted.Given as goal
 
 -- the cells so far show the fields so far
 abbrev pub invariant-loop-field : goal.invariant-loop-field
