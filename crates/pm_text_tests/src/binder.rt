@@ -1,8 +1,10 @@
 //! Statements over a schema, and what they are bound to.
+ghost use Rattle.std.specs.Prelude.{◌≤◌, length};
+
 use pm_binder::{BindBad, bind};
-use pm_lexer::lex;
-use pm_schema::read_schema;
-use pm_syntax::parse;
+use pm_lexer::{Tokens, lex};
+use pm_schema::{Schema, read_schema};
+use pm_syntax::{Select, parse};
 use pm_values::Txt;
 use std::alloc::{AllocError, Global};
 use std::test::Fail;
@@ -10,31 +12,60 @@ use std::test::Fail;
 const SHOP: &str =
     "TABLE cust FROM 'c' (id INT NOT NULL, name TEXT, KEY (id)); TABLE ord FROM 'o' (id INT NOT NULL, cust INT NOT NULL, amt INT NOT NULL, KEY (id));";
 
-// How many conjuncts and outputs the query has that the text is bound to over the shop's tables, or the refusal; None where
-// it is no statement.
-fn answer(
-    alloc: Global,
-    text: &str,
-) -> Result<Option<Result<(usize, usize), BindBad>>, AllocError> {
-    let Ok(shop) = lex(alloc, &Txt::new(alloc, SHOP)?) else {
-        return Ok(None);
-    };
-    let Ok(schema) = read_schema(alloc, &shop) else {
-        return Ok(None);
-    };
-    let Ok(tokens) = lex(alloc, &Txt::new(alloc, text)?) else {
-        return Ok(None);
-    };
-    let Ok(select) = parse(alloc, &tokens) else {
-        return Ok(None);
-    };
-    if schema.len() > 64 {
-        return Ok(None);
+/// How many conjuncts and outputs the query has that a text is bound to, or the refusal; None where it is no statement.
+type Outcome = Option<Result<(usize, usize), BindBad>>;
+
+// What a text is bound to over the shop's tables.
+fn answer(alloc: Global, text: &str) -> Result<Outcome, AllocError> {
+    let text = Txt::new(alloc, text)?;
+    match lex(alloc, &text) {
+        Ok(tokens) => read_and_bound(alloc, &tokens),
+        Err(_) => Ok(None),
     }
-    match bind(alloc, &select, &schema) {
-        Ok(query) => Ok(Some(Ok((query.conjuncts.len(), query.outputs.len())))),
-        Err(bad) => Ok(Some(Err(bad))),
+}
+
+// What the statement of these tokens is bound to.
+fn read_and_bound(alloc: Global, tokens: &Tokens) -> Result<Outcome, AllocError> {
+    let select = parse(alloc, tokens);
+    let outcome = match &select {
+        Ok(select) => over_shop(alloc, select),
+        Err(_) => Ok(None),
+    };
+    drop(select);
+    outcome
+}
+
+// What a statement is bound to over the shop's tables.
+fn over_shop(alloc: Global, select: &Select) -> Result<Outcome, AllocError> {
+    let text = Txt::new(alloc, SHOP)?;
+    match lex(alloc, &text) {
+        Ok(tokens) => over_schema(alloc, select, &tokens),
+        Err(_) => Ok(None),
     }
+}
+
+// What a statement is bound to over the schema of these tokens.
+fn over_schema(alloc: Global, select: &Select, tokens: &Tokens) -> Result<Outcome, AllocError> {
+    let schema = read_schema(alloc, tokens);
+    let outcome = match &schema {
+        Ok(schema) if schema.len() <= 64 => Ok(Some(bound(alloc, select, schema))),
+        _ => Ok(None),
+    };
+    drop(schema);
+    outcome
+}
+
+// How many conjuncts and outputs the query of a statement has, or the refusal.
+fn bound(alloc: Global, select: &Select, schema: &Schema) -> Result<(usize, usize), BindBad>
+    requires { length schema.now ≤ 64 }
+{
+    let query = bind(alloc, select, schema);
+    let counts = match &query {
+        Ok(query) => Ok((query.conjuncts.len(), query.outputs.len())),
+        Err(bad) => Err(*bad),
+    };
+    drop(query);
+    counts
 }
 
 #[test]

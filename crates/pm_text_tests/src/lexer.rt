@@ -2,6 +2,7 @@
 use pm_lexer::{Symbol, Tokens, content, lex, put_name, put_quoted};
 use pm_values::Txt;
 use std::alloc::{AllocError, Global};
+use std::process::Abort;
 use std::test::Fail;
 
 // The symbols and the places of a text's tokens, or why it has none.
@@ -66,25 +67,35 @@ fn texts_have_these_tokens(rt: HostRuntime) -> Result<(), Fail> {
 // A text token of 65,536 bytes, whose text is of quotes.
 fn quotes(alloc: Global) -> Result<String, AllocError> {
     let mut text = String::from_str(alloc, "'")?;
-    for _ in 0..32767 {
-        text.push_str("''")?;
-    }
+    text.push_str("''".repeat(alloc, 32767)?.as_str())?;
     text.push_str("'")?;
     Ok(text)
+}
+
+// The text of a text's one token.
+fn text_of(rt: &impl Abort, alloc: Global, whole: &str) -> Result<Txt, Fail> {
+    let text = Txt::new(alloc, whole)?;
+    let tokens = lex(alloc, &text).ok().ok_or("no tokens")?;
+    assert_eq!(rt; tokens.len(), 2);
+    Ok(content(alloc, tokens.at(0))?)
+}
+
+// The text of a text's one token of 32,767 bytes, written again.
+fn rewritten(rt: &impl Abort, alloc: Global, whole: &str) -> Result<String, Fail> {
+    let inner = text_of(rt, alloc, whole)?;
+    assert_eq!(rt; inner.bytes().len(), 32767);
+    let mut written = String::new(alloc);
+    put_quoted(&mut written, '\'', inner.as_str())?;
+    Ok(written)
 }
 
 #[test]
 fn the_longest_text_is_read_and_written(rt: HostRuntime) -> Result<(), Fail> {
     let whole = quotes(rt.alloc())?;
-    let text = Txt::new(rt.alloc(), whole.as_str())?;
-    let tokens = lex(rt.alloc(), &text).ok().ok_or("no tokens")?;
-    assert_eq!(rt; tokens.len(), 2);
-    let inner = content(rt.alloc(), tokens.at(0))?;
-    assert_eq!(rt; inner.bytes().len(), 32767);
-    let mut written = String::new(rt.alloc());
-    put_quoted(&mut written, '\'', inner.as_str())?;
+    let mut written = rewritten(&rt, rt.alloc(), whole.as_str())?;
     assert_eq!(rt; written.as_str(), whole.as_str());
-    put_name(&mut written, &Txt::new(rt.alloc(), "union")?)?;
+    let word = Txt::new(rt.alloc(), "union")?;
+    put_name(&mut written, &word)?;
     assert_eq!(rt; written.as_str().len(), 65536 + 7);
     Ok(())
 }

@@ -66,10 +66,33 @@ fn file(alloc: Global, faulty: &[u32]) -> Result<String, AllocError> {
 
 /// How many rows the table has, or the first fault.
 fn answer(alloc: Global, loaded: Result<Table, DataBad>) -> Result<String, AllocError> {
-    match loaded {
+    let text = match &loaded {
         Ok(table) => format!(in alloc; "{}", table.rows().len()),
         Err(fault) => format!(in alloc; "{fault:?}"),
-    }
+    };
+    drop(loaded);
+    text
+}
+
+/// What so many workers answer to a file in which these records are no numbers, where a table has no more than these rows.
+fn loaded<R: Threads + Sync, G: Gate>(
+    rt: &R,
+    alloc: Global,
+    faulty: &[u32],
+    workers: u32,
+    most: u32,
+    gate: &G,
+) -> Result<String, AllocError>
+    requires some { 1 ≤ workers }
+    requires few { workers ≤ 64 }
+    requires most { most ≤ 1000 }
+{
+    let text = file(alloc, faulty)?;
+    let decl = declared(alloc)?;
+    answer(
+        alloc,
+        load(rt, alloc, decl, text.as_bytes(), workers, most, gate),
+    )
 }
 
 /// What so many workers answer to a sound file, to one with two faulty records, and to one with a record too many.
@@ -77,39 +100,12 @@ fn answers<R: Threads + Sync>(rt: &R, alloc: Global, workers: u32) -> Result<Str
     requires some { 1 ≤ workers }
     requires few { workers ≤ 64 }
 {
-    let sound = file(alloc, &[])?;
-    let faulty = file(alloc, &[3, 998])?;
-    let table = load(
-        rt,
-        alloc,
-        declared(alloc)?,
-        sound.as_bytes(),
-        workers,
-        1000,
-        &OpenGate,
-    );
-    let refused = load(
-        rt,
-        alloc,
-        declared(alloc)?,
-        faulty.as_bytes(),
-        workers,
-        1000,
-        &OpenGate,
-    );
-    let long = load(
-        rt,
-        alloc,
-        declared(alloc)?,
-        sound.as_bytes(),
-        workers,
-        999,
-        &OpenGate,
-    );
-    let table = answer(alloc, table)?;
-    let refused = answer(alloc, refused)?;
-    let long = answer(alloc, long)?;
-    format!(in alloc; "{table} {refused} {long}")
+    let mut text = loaded(rt, alloc, &[], workers, 1000, &OpenGate)?;
+    text.push_str(" ")?;
+    text.push_str(loaded(rt, alloc, &[3, 998], workers, 1000, &OpenGate)?.as_str())?;
+    text.push_str(" ")?;
+    text.push_str(loaded(rt, alloc, &[], workers, 999, &OpenGate)?.as_str())?;
+    Ok(text)
 }
 
 #[test]
@@ -125,22 +121,12 @@ fn workers_load_the_same(rt: HostRuntime) -> Result<(), Fail> {
 #[test]
 fn two_at_once(rt: HostRuntime) -> Result<(), Fail> {
     let alloc = rt.alloc();
-    let text = file(alloc, &[])?;
     let gate = Meeting {
         first: AtomicU64::new(0),
         second: AtomicU64::new(0),
         missed: AtomicU64::new(0),
     };
-    let table = load(
-        &rt,
-        alloc,
-        declared(alloc)?,
-        text.as_bytes(),
-        2,
-        1000,
-        &gate,
-    );
-    assert!(rt; answer(alloc, table)?.as_str() == "1000");
+    assert!(rt; loaded(&rt, alloc, &[], 2, 1000, &gate)?.as_str() == "1000");
     assert!(rt; gate.first.load(Ordering::SeqCst) == 1 && gate.second.load(Ordering::SeqCst) == 1);
     assert!(rt; gate.missed.load(Ordering::SeqCst) == 0);
     Ok(())

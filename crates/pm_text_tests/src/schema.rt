@@ -1,5 +1,5 @@
 //! Texts of schemas and their answers.
-use pm_lexer::lex;
+use pm_lexer::{Tokens, lex};
 use pm_schema::{SchemaBad, read_schema};
 use pm_values::Txt;
 use std::alloc::{AllocError, Global};
@@ -8,11 +8,15 @@ use std::test::Fail;
 // How many tables a text declares, or its refusal. Its own refusals by the lexer have no place here.
 fn answer(alloc: Global, text: &str) -> Result<Result<usize, SchemaBad>, AllocError> {
     let text = Txt::new(alloc, text)?;
-    let Ok(tokens) = lex(alloc, &text) else {
-        return Ok(Err(SchemaBad::Memory));
-    };
-    let answer = read_schema(alloc, &tokens);
-    Ok(answer.map(|schema| schema.len()))
+    match lex(alloc, &text) {
+        Ok(tokens) => Ok(read(alloc, &tokens)),
+        Err(_) => Ok(Err(SchemaBad::Memory)),
+    }
+}
+
+// How many tables tokens declare, or their refusal.
+fn read(alloc: Global, tokens: &Tokens) -> Result<usize, SchemaBad> {
+    read_schema(alloc, tokens).map(|schema| schema.len())
 }
 
 #[test]
@@ -58,17 +62,33 @@ fn wide(
 ) -> Result<String, AllocError> {
     let mut text = String::new(alloc);
     for t in 0..tables {
-        text.push_str(format!(in alloc; "TABLE t{t} FROM 'f' (")?.as_str())?;
-        for c in 0..columns {
-            text.push_str(format!(in alloc; "c{c} INT NOT NULL, ")?.as_str())?;
-        }
-        let last = columns.saturating_sub(1);
-        text.push_str(format!(in alloc; "KEY (c{last})")?.as_str())?;
-        for _ in 0..references {
-            let clause = format!(in alloc; ", REFERENCES (c{last}) TO t{t} (c{last})")?;
-            text.push_str(clause.as_str())?;
-        }
-        text.push_str(");")?;
+        text.push_str(table(alloc, t, columns, references)?.as_str())?;
+    }
+    Ok(text)
+}
+
+// The table with this number of such a schema.
+fn table(
+    alloc: Global,
+    number: usize,
+    columns: usize,
+    references: usize,
+) -> Result<String, AllocError> {
+    let last = columns.saturating_sub(1);
+    let mut text = format!(in alloc; "TABLE t{number} FROM 'f' (")?;
+    text.push_str(declared(alloc, columns)?.as_str())?;
+    text.push_str(format!(in alloc; "KEY (c{last})")?.as_str())?;
+    let clause = format!(in alloc; ", REFERENCES (c{last}) TO t{number} (c{last})")?;
+    text.push_str(clause.repeat(alloc, references)?.as_str())?;
+    text.push_str(");")?;
+    Ok(text)
+}
+
+// The declarations of so many columns, with a comma behind each.
+fn declared(alloc: Global, columns: usize) -> Result<String, AllocError> {
+    let mut text = String::new(alloc);
+    for c in 0..columns {
+        text.push_str(format!(in alloc; "c{c} INT NOT NULL, ")?.as_str())?;
     }
     Ok(text)
 }

@@ -1,5 +1,5 @@
 //! Queries, and what reading them answers, at each limit of the lists and of depth.
-use pm_lexer::lex;
+use pm_lexer::{Tokens, lex};
 use pm_syntax::parse;
 use pm_values::Txt;
 use std::alloc::{AllocError, Global};
@@ -8,12 +8,17 @@ use std::test::Fail;
 // What reading a query answers, as one line.
 fn answer(alloc: Global, query: &str) -> Result<String, AllocError> {
     let text = Txt::new(alloc, query)?;
-    let Ok(tokens) = lex(alloc, &text) else {
-        return String::from_str(alloc, "no tokens");
-    };
-    match parse(alloc, &tokens) {
-        Err(e) => format!(in alloc; "{e:?}"),
-        Ok(_) => String::from_str(alloc, "read"),
+    match lex(alloc, &text) {
+        Ok(tokens) => read(alloc, &tokens),
+        Err(_) => String::from_str(alloc, "no tokens"),
+    }
+}
+
+// What reading the tokens of a query answers.
+fn read(alloc: Global, tokens: &Tokens) -> Result<String, AllocError> {
+    match parse(alloc, tokens).err() {
+        Some(e) => format!(in alloc; "{e:?}"),
+        None => String::from_str(alloc, "read"),
     }
 }
 
@@ -24,6 +29,17 @@ fn repeated(alloc: Global, front: &str, piece: &str, times: u32) -> Result<Strin
         text.push_str(piece)?;
     }
     Ok(text)
+}
+
+// What reading a query answers that ends in a piece so many times.
+fn answer_to_repeated(
+    alloc: Global,
+    front: &str,
+    piece: &str,
+    times: u32,
+) -> Result<String, AllocError> {
+    let query = repeated(alloc, front, piece, times)?;
+    answer(alloc, query.as_str())
 }
 
 #[test]
@@ -61,12 +77,8 @@ fn queries_are_read_or_refused(rt: HostRuntime) -> Result<(), Fail> {
         ("SELECT a FROM t GROUP BY a", ",a", 64, "TooMany(153)"),
     ];
     for (front, piece, times, want) in table {
-        let query = repeated(rt.alloc(), front, piece, times)?;
-        assert_eq!(rt;
-            answer(rt.alloc(), query.as_str())?.as_str(),
-            want,
-            "{front} {times}"
-        );
+        let found = answer_to_repeated(rt.alloc(), front, piece, times)?;
+        assert_eq!(rt; found.as_str(), want, "{front} {times}");
     }
     Ok(())
 }

@@ -81,10 +81,19 @@ fn written(alloc: Global, table: &Table) -> Result<String, AllocError> {
 
 // What a file of at most five records gives.
 fn answer(alloc: Global, decl: TableDecl, bytes: &[u8]) -> Result<String, AllocError> {
-    match load(alloc, decl, bytes, 5) {
-        Ok(table) => written(alloc, &table),
+    let table = load(alloc, decl, bytes, 5);
+    let text = match &table {
+        Ok(table) => written(alloc, table),
         Err(e) => format!(in alloc; "{e:?}"),
-    }
+    };
+    drop(table);
+    text
+}
+
+// What a file of at most five records of numbers gives.
+fn numbers(alloc: Global, text: &str) -> Result<String, AllocError> {
+    let decl = declared(alloc, Kind::Num(2), Kind::Int, false, false)?;
+    answer(alloc, decl, text.as_bytes())
 }
 
 #[test]
@@ -117,14 +126,15 @@ fn files_of_numbers(rt: HostRuntime) -> Result<(), Fail> {
         ("\u{feff}\u{feff}p,q\n", "Header(1)"),
     ];
     for (text, want) in cases {
-        let decl = declared(alloc, Kind::Num(2), Kind::Int, false, false)?;
-        assert_eq!(rt;
-            answer(alloc, decl, text.as_bytes())?.as_str(),
-            want,
-            "{text}"
-        );
+        assert_eq!(rt; numbers(alloc, text)?.as_str(), want, "{text}");
     }
     Ok(())
+}
+
+// What a file of at most five records of a number and a text gives, where the number is the KEY and the ORDER or is neither.
+fn texts(alloc: Global, key: bool, bytes: &[u8]) -> Result<String, AllocError> {
+    let decl = declared(alloc, Kind::Int, Kind::Text, key, key)?;
+    answer(alloc, decl, bytes)
 }
 
 #[test]
@@ -142,15 +152,13 @@ fn files_with_a_key(rt: HostRuntime) -> Result<(), Fail> {
         ),
     ];
     for (text, want) in cases {
-        let decl = declared(alloc, Kind::Int, Kind::Text, true, true)?;
         assert_eq!(rt;
-            answer(alloc, decl, text.as_bytes())?.as_str(),
+            texts(alloc, true, text.as_bytes())?.as_str(),
             want,
             "{text}"
         );
     }
-    let decl = declared(alloc, Kind::Int, Kind::Text, false, false)?;
-    assert_eq!(rt; answer(alloc, decl, b"p,q\n\xff")?.as_str(), "NotText(4)");
+    assert_eq!(rt; texts(alloc, false, b"p,q\n\xff")?.as_str(), "NotText(4)");
     Ok(())
 }
 
@@ -166,18 +174,21 @@ fn typed(alloc: Global, decl: &TableDecl, list: &Records, from: u32) -> Result<S
     }
 }
 
-// What the records of a file are, without the first.
-fn listed(alloc: Global, decl: &TableDecl, bytes: &[u8]) -> Result<String, AllocError> {
-    match records(alloc, decl, bytes, 5) {
-        Ok(list) => typed(alloc, decl, &list, 1),
+// What the records of a file of numbers are, without the first.
+fn listed(alloc: Global, text: &str) -> Result<String, AllocError> {
+    let decl = declared(alloc, Kind::Num(2), Kind::Int, false, false)?;
+    let list = records(alloc, &decl, text.as_bytes(), 5);
+    let text = match &list {
+        Ok(list) => typed(alloc, &decl, list, 1),
         Err(e) => format!(in alloc; "{e:?}"),
-    }
+    };
+    drop(list);
+    text
 }
 
 #[test]
 fn records_are_listed_and_typed_in_parts(rt: HostRuntime) -> Result<(), Fail> {
     let alloc = rt.alloc();
-    let decl = declared(alloc, Kind::Num(2), Kind::Int, false, false)?;
     for (text, want) in [
         ("", "NoHeader"),
         ("p,r\n", "Header(2)"),
@@ -187,11 +198,7 @@ fn records_are_listed_and_typed_in_parts(rt: HostRuntime) -> Result<(), Fail> {
         ("p,q\n1,2\n1,2,3\n", "Width(2)"),
         ("p,q\n", "none"),
     ] {
-        assert_eq!(rt;
-            listed(alloc, &decl, text.as_bytes())?.as_str(),
-            want,
-            "{text}"
-        );
+        assert_eq!(rt; listed(alloc, text)?.as_str(), want, "{text}");
     }
     Ok(())
 }
@@ -223,11 +230,20 @@ fn referring(alloc: Global) -> Result<TableDecl, AllocError>
 
 // Whether each row of a file of at most 2,000 records has a row to which it refers.
 fn checked(alloc: Global, bytes: &[u8]) -> Result<String, AllocError> {
-    match load(alloc, referring(alloc)?, bytes, 2000) {
-        Ok(table) => match check_reference(alloc, &table, 1, &table) {
-            Ok(()) => format!(in alloc; "{} rows", table.rows().len()),
-            Err(e) => format!(in alloc; "{e:?}"),
-        },
+    let table = load(alloc, referring(alloc)?, bytes, 2000);
+    let text = match &table {
+        Ok(table) => checked_table(alloc, table),
+        Err(e) => format!(in alloc; "{e:?}"),
+    };
+    drop(table);
+    text
+}
+
+fn checked_table(alloc: Global, table: &Table) -> Result<String, AllocError>
+    requires { length table.now.decl.references ≡ 1 }
+{
+    match check_reference(alloc, table, 1, table) {
+        Ok(()) => format!(in alloc; "{} rows", table.rows().len()),
         Err(e) => format!(in alloc; "{e:?}"),
     }
 }
@@ -243,6 +259,12 @@ fn many(alloc: Global, last: &str) -> Result<String, AllocError> {
     Ok(text)
 }
 
+// The same of the file of many records.
+fn checked_many(alloc: Global, last: &str) -> Result<String, AllocError> {
+    let text = many(alloc, last)?;
+    checked(alloc, text.as_str().as_bytes())
+}
+
 #[test]
 fn references_of_a_table_to_itself(rt: HostRuntime) -> Result<(), Fail> {
     let alloc = rt.alloc();
@@ -255,28 +277,37 @@ fn references_of_a_table_to_itself(rt: HostRuntime) -> Result<(), Fail> {
     ] {
         assert_eq!(rt; checked(alloc, text.as_bytes())?.as_str(), want, "{text}");
     }
+    Ok(())
+}
+
+#[test]
+fn references_of_many_records(rt: HostRuntime) -> Result<(), Fail> {
+    let alloc = rt.alloc();
     for (last, want) in [
         ("1982,7\n", "2000 rows"),
         ("1982,0.07\n", "NoTarget(2000, 1)"),
         ("7,7\n", "DoubleKey(1, 2000)"),
     ] {
-        let text = many(alloc, last)?;
-        assert_eq!(rt;
-            checked(alloc, text.as_str().as_bytes())?.as_str(),
-            want,
-            "{last}"
-        );
+        assert_eq!(rt; checked_many(alloc, last)?.as_str(), want, "{last}");
     }
     Ok(())
 }
 
-// A row and a condition with each kind of value, and their copies, as they are written.
-fn copied(alloc: Global) -> Result<(String, String), AllocError> {
+// A row with each kind of value, or a copy of it, as it is written.
+fn row_text(alloc: Global, copied: bool) -> Result<String, AllocError> {
     let mut row = Row::new(alloc);
     row.push(Value::Null)?;
     row.push(Value::Int(-7))?;
     row.push(Value::Text(Txt::new(alloc, "seven")?))?;
-    let cond = Cond::Compare {
+    if copied {
+        row = copy_row(alloc, &row)?;
+    }
+    format!(in alloc; "{row:?} ")
+}
+
+// A condition with a text, or a copy of it, as it is written.
+fn condition_text(alloc: Global, copied: bool) -> Result<String, AllocError> {
+    let mut cond = Cond::Compare {
         how: Comparison::AtMost,
         left: Operand::Column { at: 1, scale: 2 },
         right: Operand::Literal {
@@ -284,21 +315,43 @@ fn copied(alloc: Global) -> Result<(String, String), AllocError> {
             scale: 0,
         },
     };
-    let decl = referring(alloc)?;
-    let (other_row, other_cond) = (copy_row(alloc, &row)?, cond.copy(alloc)?);
-    let other_decl = decl.copy(alloc)?;
-    Ok((
-        format!(in alloc; "{row:?} {cond:?} {decl:?}")?,
-        format!(in alloc; "{other_row:?} {other_cond:?} {other_decl:?}")?,
-    ))
+    if copied {
+        cond = cond.copy(alloc)?;
+    }
+    format!(in alloc; "{cond:?} ")
+}
+
+// A declaration with a key and a reference, or a copy of it, as it is written.
+fn declaration_text(alloc: Global, copied: bool) -> Result<String, AllocError> {
+    let mut decl = referring(alloc)?;
+    if copied {
+        decl = decl.copy(alloc)?;
+    }
+    format!(in alloc; "{decl:?}")
+}
+
+// A row, a condition and a declaration, or their copies, as they are written.
+fn all_texts(alloc: Global, copied: bool) -> Result<String, AllocError> {
+    let mut text = row_text(alloc, copied)?;
+    text.push_str(condition_text(alloc, copied)?.as_str())?;
+    text.push_str(declaration_text(alloc, copied)?.as_str())?;
+    Ok(text)
 }
 
 #[test]
 fn copies_are_equal(rt: HostRuntime) -> Result<(), Fail> {
-    let (original, copy) = copied(rt.alloc())?;
+    let original = all_texts(rt.alloc(), false)?;
+    let copy = all_texts(rt.alloc(), true)?;
     assert_eq!(rt; copy.as_str(), original.as_str());
     assert!(rt; copy.len() > 100);
     Ok(())
+}
+
+fn wide_column(alloc: Global, number: u32) -> Result<ColumnDecl, AllocError>
+    ensures { IfOk result HasValidKind }
+{
+    let name = format!(in alloc; "c{number}")?;
+    column(alloc, name.as_str(), Kind::Int, false)
 }
 
 fn wide_columns(alloc: Global) -> Result<ColumnDecls, AllocError>
@@ -307,8 +360,7 @@ fn wide_columns(alloc: Global) -> Result<ColumnDecls, AllocError>
 {
     let mut columns = ColumnDecls::new(alloc);
     for number in 0..64u32 {
-        let name = format!(in alloc; "c{number}")?;
-        columns.push(column(alloc, name.as_str(), Kind::Int, false)?)?;
+        columns.push(wide_column(alloc, number)?)?;
     }
     Ok(columns)
 }
@@ -322,32 +374,48 @@ fn wide(alloc: Global) -> Result<TableDecl, AllocError> {
     Ok(TableDecl::new(name, file, columns, Some(key), None, References::new(alloc)))
 }
 
-// A file with these records of 64 fields, each 63 times one field and then another.
-fn wide_file(alloc: Global, records: &[(&str, &str)]) -> Result<String, AllocError> {
+fn wide_header(alloc: Global) -> Result<String, AllocError> {
     let mut text = String::new(alloc);
     for number in 0..63u32 {
         text.push_str(format!(in alloc; "c{number},")?.as_str())?;
     }
     text.push_str("c63\n")?;
+    Ok(text)
+}
+
+// A record of 64 fields, which is 63 times one field and then another.
+fn wide_record(alloc: Global, others: &str, last: &str) -> Result<String, AllocError> {
+    let mut text = others.repeat(alloc, 63)?;
+    text.push_str(last)?;
+    Ok(text)
+}
+
+// A file with these records of 64 fields, each 63 times one field and then another.
+fn wide_file(alloc: Global, records: &[(&str, &str)]) -> Result<String, AllocError> {
+    let mut text = wide_header(alloc)?;
     for (others, last) in records {
-        for _ in 0..63 {
-            text.push_str(others)?;
-        }
-        text.push_str(last)?;
+        text.push_str(wide_record(alloc, others, last)?.as_str())?;
     }
     Ok(text)
+}
+
+// What a file of three records of 64 fields gives, of which the last field of the last record is this one.
+fn wide_answer(alloc: Global, last: &str) -> Result<String, AllocError> {
+    let text = wide_file(alloc, &[("7,", "1\n"), ("7,", "2\n"), ("8,", last)])?;
+    let table = load(alloc, wide(alloc)?, text.as_str().as_bytes(), 5);
+    let text = match &table {
+        Ok(table) => format!(in alloc; "{} rows", table.rows().len()),
+        Err(e) => format!(in alloc; "{e:?}"),
+    };
+    drop(table);
+    text
 }
 
 #[test]
 fn the_last_of_64_columns_is_a_key(rt: HostRuntime) -> Result<(), Fail> {
     let alloc = rt.alloc();
     for (last, want) in [("1\n", "DoubleKey(1, 3)"), ("3\n", "3 rows")] {
-        let text = wide_file(alloc, &[("7,", "1\n"), ("7,", "2\n"), ("8,", last)])?;
-        let given = match load(alloc, wide(alloc)?, text.as_str().as_bytes(), 5) {
-            Ok(table) => format!(in alloc; "{} rows", table.rows().len())?,
-            Err(e) => format!(in alloc; "{e:?}")?,
-        };
-        assert_eq!(rt; given.as_str(), want, "{last}");
+        assert_eq!(rt; wide_answer(alloc, last)?.as_str(), want, "{last}");
     }
     Ok(())
 }
