@@ -23,11 +23,18 @@ fn files_of(alloc: Global, texts: Texts) -> Result<MemFiles, AllocError> {
     let (schema, query, cust, ord) = texts;
     let mut files = MemFiles::new(alloc);
     for (name, text) in [("s", schema), ("q", query), ("c", cust), ("o", ord)] {
-        if !text.is_empty() {
-            files.put(&Txt::new(alloc, name)?, text.as_bytes())?;
-        }
+        put(alloc, &mut files, name, text)?;
     }
     Ok(files)
+}
+
+/// Gives the file of this name this text; without text it is absent.
+fn put(alloc: Global, files: &mut MemFiles, name: &str, text: &str) -> Result<(), AllocError> {
+    if text.is_empty() {
+        return Ok(());
+    }
+    let name = Txt::new(alloc, name)?;
+    files.put(&name, text.as_bytes())
 }
 
 /// The number of a file: the schema's, the query's, and those of the tables in the order of the schema.
@@ -60,10 +67,37 @@ fn answer<R: Threads + Sync>(
 ) -> Result<(u8, u64), AllocError> {
     let schema = Txt::new(alloc, "s")?;
     let query = Txt::new(alloc, "q")?;
-    match load(rt, alloc, &schema, &query, 2, files, &OpenGate) {
-        Ok(request) => Ok((0, request.db.len() as u64)),
-        Err(refusal) => Ok(place_of(&refusal)),
-    }
+    Ok(loaded(rt, alloc, &schema, &query, files))
+}
+
+/// The same of files with these names of the schema and the query.
+fn loaded<R: Threads + Sync>(
+    rt: &R,
+    alloc: Global,
+    schema: &Txt,
+    query: &Txt,
+    files: &mut MemFiles,
+) -> (u8, u64) {
+    let request = load(rt, alloc, schema, query, 2, files, &OpenGate);
+    let found = match &request {
+        Ok(request) => (0, request.db.len() as u64),
+        Err(refusal) => place_of(refusal),
+    };
+    drop(request);
+    found
+}
+
+/// What these texts give, of which each read has one byte.
+fn answer_by_bytes<R: Threads + Sync>(
+    rt: &R,
+    alloc: Global,
+    texts: Texts,
+) -> Result<(u8, u64), AllocError> {
+    let mut files = files_of(alloc, texts)?;
+    files.piece(1);
+    let found = answer(rt, alloc, &mut files);
+    drop(files);
+    found
 }
 
 #[test]
@@ -83,20 +117,27 @@ fn the_first_refusal_in_order_is_given(rt: HostRuntime) -> Result<(), Fail> {
         ((SCHEMA, QUERY, "id\n", ORD), (5, 0)),
         ((SCHEMA, QUERY, "id,name\n2,Bob\n", ORD), (5, 1)),
     ] {
-        let mut files = files_of(alloc, texts)?;
-        files.piece(1);
-        assert_eq!(rt; answer(&rt, alloc, &mut files)?, found);
+        assert_eq!(rt; answer_by_bytes(&rt, alloc, texts)?, found);
     }
     Ok(())
+}
+
+/// What the shop's files give where the call with this number fails.
+fn answer_with_fault<R: Threads + Sync>(
+    rt: &R,
+    alloc: Global,
+    call: u64,
+) -> Result<(u8, u64), AllocError> {
+    let mut files = files_of(alloc, (SCHEMA, QUERY, CUST, ORD))?;
+    files.fail_at(call)?;
+    answer(rt, alloc, &mut files)
 }
 
 #[test]
 fn a_fault_is_that_of_the_file_being_read(rt: HostRuntime) -> Result<(), Fail> {
     let alloc = rt.alloc();
     for (call, file) in [(1, 0), (3, 0), (4, 1), (7, 3), (9, 3), (10, 2), (12, 2)] {
-        let mut files = files_of(alloc, (SCHEMA, QUERY, CUST, ORD))?;
-        files.fail_at(call)?;
-        assert_eq!(rt; answer(&rt, alloc, &mut files)?, (7, file));
+        assert_eq!(rt; answer_with_fault(&rt, alloc, call)?, (7, file));
     }
     Ok(())
 }

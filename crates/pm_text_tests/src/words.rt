@@ -1,22 +1,56 @@
 //! Words that call for settings and words that call for none, with ample memory.
-use pm_query::Choice;
 use pm_values::Txt;
-use pm_words::{Settings, WordsBad, read_words};
-use std::alloc::Global;
+use pm_words::{RunSettings, Settings, read_words};
+use std::alloc::{AllocError, Global};
 use std::test::Fail;
 
-fn answer(alloc: Global, words: &[&str]) -> Result<Result<Settings, WordsBad>, Fail> {
+fn copied(alloc: Global, words: &[&str]) -> Result<Vec<Txt>, AllocError> {
     let mut copies = Vec::new(alloc);
     for word in words {
         copies.push(Txt::new(alloc, word)?)?;
     }
-    Ok(read_words(alloc, copies.as_slice()))
+    Ok(copies)
+}
+
+// The settings of a run: the files, the events between two lines, the joins, whether there are such lines, and the workers.
+fn run_text(alloc: Global, run: &RunSettings) -> Result<String, AllocError> {
+    format!(in alloc;
+        "run {} {} {} {:?} {} {}",
+        run.schema.as_str(),
+        run.query.as_str(),
+        run.every,
+        run.join,
+        run.progress,
+        run.workers
+    )
+}
+
+fn settings_text(alloc: Global, settings: &Settings) -> Result<String, AllocError> {
+    match settings {
+        Settings::Run(run) => run_text(alloc, run),
+        Settings::Explain(explain) => {
+            let (schema, query) = (explain.schema.as_str(), explain.query.as_str());
+            format!(in alloc; "explain {schema} {query}")
+        }
+        Settings::Demo(demo) => format!(in alloc; "demo {} {}", demo.size, demo.workers),
+    }
+}
+
+// What words call for, or why they call for nothing.
+fn answer(alloc: Global, words: &[&str]) -> Result<String, AllocError> {
+    let copies = copied(alloc, words)?;
+    let answer = read_words(alloc, copies.as_slice());
+    let text = match &answer {
+        Ok(settings) => settings_text(alloc, settings),
+        Err(bad) => format!(in alloc; "{bad:?}"),
+    };
+    drop(answer);
+    text
 }
 
 #[test]
 fn settings_are_read(rt: HostRuntime) -> Result<(), Fail> {
-    let alloc = rt.alloc();
-    let words = [
+    let run = [
         "run",
         "--workers",
         "8",
@@ -27,21 +61,14 @@ fn settings_are_read(rt: HostRuntime) -> Result<(), Fail> {
         "merge",
         "--progress=off",
     ];
-    let Ok(Settings::Run(run)) = answer(alloc, &words)? else {
-        return Err(Fail::from("no run"));
-    };
-    assert!(rt; run.schema.as_str() == "s" && run.query.as_str() == "q");
-    assert!(rt; run.every == 7 && run.join == Choice::Merge && !run.progress && run.workers == 8);
-    let Ok(Settings::Explain(explain)) = answer(alloc, &["explain", "s", "q"])? else {
-        return Err(Fail::from("no explain"));
-    };
-    assert!(rt; explain.schema.as_str() == "s" && explain.query.as_str() == "q");
-    let Ok(Settings::Demo(demo)) = answer(alloc, &["demo", "1000"])? else {
-        return Err(Fail::from("no demo"));
-    };
-    assert!(rt; demo.size == 1000 && demo.workers == 1);
-    let Err(WordsBad::Usage) = answer(alloc, &["run", "s"])? else {
-        return Err(Fail::from("one file is enough"));
-    };
+    let cases: [(&[&str], &str); 4] = [
+        (&run, "run s q 7 Merge false 8"),
+        (&["explain", "s", "q"], "explain s q"),
+        (&["demo", "1000"], "demo 1000 1"),
+        (&["run", "s"], "Usage"),
+    ];
+    for (words, want) in cases {
+        assert_eq!(rt; answer(rt.alloc(), words)?.as_str(), want);
+    }
     Ok(())
 }
