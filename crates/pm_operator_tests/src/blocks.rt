@@ -9,6 +9,7 @@ use pm_plan::{Aggregate, Aggregates, SortKey, SortKeys};
 use pm_values::{Columns, Row, Rows, Txt, Value};
 use std::alloc::{AllocError, Global};
 use std::cmp::Ordering;
+use std::process::Abort;
 use std::test::Fail;
 
 /// A row of a number, NULL where there is none, and a text.
@@ -89,6 +90,17 @@ fn sorted(alloc: Global, keys: &SortKeys, rows: &Rows) -> Result<Vec<u64>, Alloc
     Ok(numbers)
 }
 
+/// The numbers of the rows of a list in the order of its sort.
+fn sorted_list(
+    alloc: Global,
+    order: &[(bool, bool)],
+    list: &[(Option<i64>, &str)],
+) -> Result<Vec<u64>, AllocError> {
+    let rows = rows(alloc, list)?;
+    let keys = keys(alloc, order)?;
+    sorted(alloc, &keys, &rows)
+}
+
 #[test]
 fn sorts_small_lists(rt: HostRuntime) -> Result<(), Fail> {
     let alloc = rt.alloc();
@@ -99,7 +111,6 @@ fn sorts_small_lists(rt: HostRuntime) -> Result<(), Fail> {
         (Some(7), "a"),
         (None, ""),
     ];
-    let rows = rows(alloc, &list)?;
     let cases: [(&[(bool, bool)], [u64; 5]); 6] = [
         (&[], [0, 1, 2, 3, 4]),
         (&[(false, false)], [1, 4, 2, 0, 3]),
@@ -108,19 +119,22 @@ fn sorts_small_lists(rt: HostRuntime) -> Result<(), Fail> {
         (&[(false, true), (true, false)], [3, 0, 2, 4, 1]),
         (&[(true, true), (false, false)], [0, 1, 2, 3, 4]),
     ];
-    for (list, expected) in cases {
-        let numbers = sorted(alloc, &keys(alloc, list)?, &rows)?;
+    for (order, expected) in cases {
+        let numbers = sorted_list(alloc, order, &list)?;
         assert_eq!(rt; numbers.as_slice(), expected.as_slice());
     }
     Ok(())
 }
 
-/// By text, and then by number from the greatest one on.
-#[test]
-fn sorts_many_rows(rt: HostRuntime) -> Result<(), Fail> {
-    let alloc = rt.alloc();
+/// The numbers of the many rows by text, and then by number from the greatest one on.
+fn sorted_many(alloc: Global) -> Result<Vec<u64>, AllocError> {
+    let rows = many_rows(alloc)?;
     let keys = keys(alloc, &[(true, false), (false, true)])?;
-    let numbers = sorted(alloc, &keys, &many_rows(alloc)?)?;
+    sorted(alloc, &keys, &rows)
+}
+
+/// The same by their definition.
+fn expected_many(alloc: Global) -> Result<Vec<u64>, AllocError> {
     let mut expected = Vec::new(alloc);
     for text in 0..37u32 {
         for less in 0..11u32 {
@@ -136,6 +150,13 @@ fn sorts_many_rows(rt: HostRuntime) -> Result<(), Fail> {
             }
         }
     }
+    Ok(expected)
+}
+
+#[test]
+fn sorts_many_rows(rt: HostRuntime) -> Result<(), Fail> {
+    let numbers = sorted_many(rt.alloc())?;
+    let expected = expected_many(rt.alloc())?;
     assert_eq!(rt; numbers.as_slice(), expected.as_slice());
     Ok(())
 }
@@ -217,6 +238,28 @@ fn written(alloc: Global, core: &mut GroupCore, width: u32) -> Result<String, Al
     Ok(text)
 }
 
+/// The groups of the rows of a list.
+fn groups_of(alloc: Global, by: By, list: &[(Option<i64>, &str)]) -> Result<String, AllocError>
+    requires { length list.now ≤ 1000 }
+{
+    let rows = rows(alloc, list)?;
+    groups(alloc, by, &rows)
+}
+
+/// Compares the groups of the rows of a list with a text.
+fn compare_text(
+    rt: &impl Abort,
+    alloc: Global,
+    by: By,
+    list: &[(Option<i64>, &str)],
+    text: &str,
+) -> Result<(), AllocError>
+    requires { length list.now ≤ 1000 }
+{
+    assert_eq!(rt; groups_of(alloc, by, list)?.as_str(), text);
+    Ok(())
+}
+
 #[test]
 fn groups_small_lists(rt: HostRuntime) -> Result<(), Fail> {
     let alloc = rt.alloc();
@@ -229,48 +272,108 @@ fn groups_small_lists(rt: HostRuntime) -> Result<(), Fail> {
         (Some(big), "b"),
         (None, ""),
     ];
-    let rows = rows(alloc, &list)?;
-    let none = Rows::new(alloc);
-    assert_eq!(rt;
-        groups(alloc, By::Text, &rows)?.as_str(),
-        "'b' 3 3 18446744073709551621 7 9223372036854775807 'b' / 'a' 2 1 3 3 3 'a' / '' 1 0 null null null '' / "
-    );
-    assert_eq!(rt;
-        groups(alloc, By::Nothing, &rows)?.as_str(),
-        "6 4 18446744073709551624 3 9223372036854775807 'b' / "
-    );
-    assert_eq!(rt; groups(alloc, By::Text, &none)?.as_str(), "");
-    assert_eq!(rt;
-        groups(alloc, By::Nothing, &none)?.as_str(),
-        "0 0 null null null null / "
-    );
+    let by_text =
+        "'b' 3 3 18446744073709551621 7 9223372036854775807 'b' / 'a' 2 1 3 3 3 'a' / '' 1 0 null null null '' / ";
+    let whole = "6 4 18446744073709551624 3 9223372036854775807 'b' / ";
+    compare_text(&rt, alloc, By::Text, &list, by_text)?;
+    compare_text(&rt, alloc, By::Nothing, &list, whole)?;
+    compare_text(&rt, alloc, By::Text, &[], "")?;
+    compare_text(&rt, alloc, By::Nothing, &[], "0 0 null null null null / ")?;
     Ok(())
+}
+
+/// How many rows and numbers a group has, and the sum, the least and the greatest of its numbers.
+#[derive(Clone, Copy)]
+struct Group {
+    all: u32,
+    count: u32,
+    sum: Option<i64>,
+    least: Option<i64>,
+    most: Option<i64>,
+}
+
+const NO_ROWS: Group = Group {
+    all: 0,
+    count: 0,
+    sum: None,
+    least: None,
+    most: None,
+};
+
+/// A group with one row more.
+fn with_row(group: Group, number: Option<i64>) -> Group {
+    let all = group.all.saturating_add(1);
+    match number {
+        Some(n) => Group {
+            all,
+            count: group.count.saturating_add(1),
+            sum: Some(group.sum.unwrap_or(0).saturating_add(n)),
+            least: Some(group.least.unwrap_or(n).min(n)),
+            most: Some(group.most.unwrap_or(n).max(n)),
+        },
+        None => Group { all, ..group },
+    }
+}
+
+fn push_number(alloc: Global, line: &mut String, number: Option<i64>) -> Result<(), AllocError> {
+    match number {
+        Some(n) => line.push_str(format!(in alloc; "{n} ")?.as_str()),
+        None => line.push_str("null "),
+    }
+}
+
+fn push_text(line: &mut String, text: &str) -> Result<(), AllocError> {
+    line.push_str("'")?;
+    line.push_str(text)?;
+    line.push_str("' ")
+}
+
+/// Writes the numbers of a group, its greatest text, and a line.
+fn push_group(
+    alloc: Global,
+    line: &mut String,
+    group: Group,
+    text: &str,
+) -> Result<(), AllocError> {
+    line.push_str(format!(in alloc; "{} {} ", group.all, group.count)?.as_str())?;
+    push_number(alloc, line, group.sum)?;
+    push_number(alloc, line, group.least)?;
+    push_number(alloc, line, group.most)?;
+    push_text(line, text)?;
+    line.push_str("/ ")
+}
+
+/// Writes the group of the many rows with this text.
+fn push_many(alloc: Global, line: &mut String, number: u32) -> Result<(), AllocError> {
+    let mut group = NO_ROWS;
+    for i in 0..1000u32 {
+        if i % 37 == number {
+            group = with_row(group, number_of(i));
+        }
+    }
+    let text = format!(in alloc; "{number:02}")?;
+    push_text(line, text.as_str())?;
+    push_group(alloc, line, group, text.as_str())
+}
+
+fn expected_many_groups(alloc: Global) -> Result<String, AllocError> {
+    let mut line = String::new(alloc);
+    for number in 0..37u32 {
+        push_many(alloc, &mut line, number)?;
+    }
+    Ok(line)
+}
+
+fn many_groups(alloc: Global) -> Result<String, AllocError> {
+    let rows = many_rows(alloc)?;
+    groups(alloc, By::Text, &rows)
 }
 
 #[test]
 fn groups_many_rows(rt: HostRuntime) -> Result<(), Fail> {
-    let alloc = rt.alloc();
-    let rows = many_rows(alloc)?;
-    let mut expected = String::new(alloc);
-    for text in 0..37u32 {
-        let (mut all, mut count, mut sum, mut least, mut most) = (0u32, 0u32, 0i64, 9i64, 0i64);
-        for i in 0..1000u32 {
-            if i % 37 == text {
-                all = all.saturating_add(1);
-                if let Some(n) = number_of(i) {
-                    count = count.saturating_add(1);
-                    sum = sum.saturating_add(n);
-                    least = least.min(n);
-                    most = most.max(n);
-                }
-            }
-        }
-        let line = format!(in alloc;
-            "'{text:02}' {all} {count} {sum} {least} {most} '{text:02}' / "
-        )?;
-        expected.push_str(line.as_str())?;
-    }
-    assert_eq!(rt; groups(alloc, By::Text, &rows)?.as_str(), expected.as_str());
+    let found = many_groups(rt.alloc())?;
+    let expected = expected_many_groups(rt.alloc())?;
+    assert_eq!(rt; found.as_str(), expected.as_str());
     Ok(())
 }
 
@@ -325,6 +428,36 @@ fn stands_before(
     one < other
 }
 
+/// At which place a row stands.
+fn place_of(order: &[(bool, bool)], list: &[(Option<i64>, &str)], one: usize) -> usize
+    requires { one < length list.now }
+{
+    let mut place: usize = 0;
+    for other in 0..list.len() {
+        if stands_before(order, list, other, one) {
+            place = place.saturating_add(1);
+        }
+    }
+    place
+}
+
+/// Compares the sort of a list with the places of its rows.
+fn compare_order(
+    rt: &impl Abort,
+    alloc: Global,
+    order: &[(bool, bool)],
+    list: &[(Option<i64>, &str)],
+    seed: u32,
+) -> Result<(), AllocError> {
+    let numbers = sorted_list(alloc, order, list)?;
+    assert_eq!(rt; numbers.len(), list.len());
+    for one in 0..list.len() {
+        let place = place_of(order, list, one);
+        assert_eq!(rt; numbers.get(place), Some(&(one as u64)), "{seed}");
+    }
+    Ok(())
+}
+
 #[test]
 fn sorts_drawn_lists(rt: HostRuntime) -> Result<(), Fail> {
     let alloc = rt.alloc();
@@ -337,19 +470,8 @@ fn sorts_drawn_lists(rt: HostRuntime) -> Result<(), Fail> {
     ];
     for seed in 0..40u32 {
         let list = drawn(alloc, seed, seed)?;
-        let rows = rows(alloc, list.as_slice())?;
-        for case in cases {
-            let numbers = sorted(alloc, &keys(alloc, case)?, &rows)?;
-            assert_eq!(rt; numbers.len(), list.len());
-            for one in 0..list.len() {
-                let mut place: usize = 0;
-                for other in 0..list.len() {
-                    if stands_before(case, list.as_slice(), other, one) {
-                        place = place.saturating_add(1);
-                    }
-                }
-                assert_eq!(rt; numbers.get(place), Some(&(one as u64)), "{seed}");
-            }
+        for order in cases {
+            compare_order(&rt, alloc, order, list.as_slice(), seed)?;
         }
     }
     Ok(())
@@ -364,48 +486,80 @@ fn same_group(by: By, one: (Option<i64>, &str), other: (Option<i64>, &str)) -> b
     }
 }
 
-fn number_text(alloc: Global, number: Option<i64>) -> Result<String, AllocError> {
-    match number {
-        Some(n) => format!(in alloc; "{n} "),
-        None => format!(in alloc; "null "),
+fn push_key(
+    alloc: Global,
+    line: &mut String,
+    by: By,
+    row: (Option<i64>, &str),
+) -> Result<(), AllocError> {
+    match by {
+        By::Nothing => Ok(()),
+        By::Number => push_number(alloc, line, row.0),
+        By::Text => push_text(line, row.1),
+        By::Both => {
+            push_number(alloc, line, row.0)?;
+            push_text(line, row.1)
+        }
     }
 }
 
-/// The group of this row, with a line behind it.
-fn group_text(
+/// The group of this row.
+fn group_of(by: By, list: &[(Option<i64>, &str)], row: (Option<i64>, &str)) -> Group {
+    let mut group = NO_ROWS;
+    for other in list {
+        if same_group(by, row, *other) {
+            group = with_row(group, other.0);
+        }
+    }
+    group
+}
+
+/// The greatest text of this row's group.
+fn greatest_text<'a>(
+    by: By,
+    list: &[(Option<i64>, &'a str)],
+    row: (Option<i64>, &'a str),
+) -> &'a str {
+    let mut greatest = "";
+    for other in list {
+        if same_group(by, row, *other) && other.1 > greatest {
+            greatest = other.1;
+        }
+    }
+    greatest
+}
+
+/// The groups of a list by their definition.
+fn expected_groups(
     alloc: Global,
     by: By,
     list: &[(Option<i64>, &str)],
-    row: (Option<i64>, &str),
 ) -> Result<String, AllocError> {
-    let (mut all, mut count, mut sum) = (0u32, 0u32, None);
-    let (mut least, mut most) = (None, None);
-    let mut text = String::new(alloc);
-    for other in list {
-        if same_group(by, row, *other) {
-            all = all.saturating_add(1);
-            if other.1 > text.as_str() {
-                text = String::from_str(alloc, other.1)?;
-            }
-            if let Some(n) = other.0 {
-                count = count.saturating_add(1);
-                sum = Some(sum.unwrap_or(0i64).saturating_add(n));
-                least = Some(least.unwrap_or(n).min(n));
-                most = Some(most.unwrap_or(n).max(n));
-            }
+    let mut line = String::new(alloc);
+    for (at, row) in list.iter().enumerate() {
+        if !list[..at].iter().any(|other| same_group(by, *row, *other)) {
+            push_key(alloc, &mut line, by, *row)?;
+            let group = group_of(by, list, *row);
+            push_group(alloc, &mut line, group, greatest_text(by, list, *row))?;
         }
     }
-    let number = number_text(alloc, row.0)?;
-    let key = match by {
-        By::Nothing => String::new(alloc),
-        By::Number => number,
-        By::Text => format!(in alloc; "'{}' ", row.1)?,
-        By::Both => format!(in alloc; "{number}'{}' ", row.1)?,
-    };
-    let sum = number_text(alloc, sum)?;
-    let least = number_text(alloc, least)?;
-    let most = number_text(alloc, most)?;
-    format!(in alloc; "{key}{all} {count} {sum}{least}{most}'{text}' / ")
+    Ok(line)
+}
+
+/// Compares the groups of a list with those of their definition.
+fn compare_groups(
+    rt: &impl Abort,
+    alloc: Global,
+    by: By,
+    list: &[(Option<i64>, &str)],
+    seed: u32,
+) -> Result<(), AllocError>
+    requires { length list.now ≤ 1000 }
+{
+    let found = groups_of(alloc, by, list)?;
+    let expected = expected_groups(alloc, by, list)?;
+    assert_eq!(rt; found.as_str(), expected.as_str(), "{seed} {by:?}");
+    Ok(())
 }
 
 #[test]
@@ -413,19 +567,8 @@ fn groups_drawn_lists(rt: HostRuntime) -> Result<(), Fail> {
     let alloc = rt.alloc();
     for seed in 1..60u32 {
         let list = drawn(alloc, seed, seed)?;
-        let rows = rows(alloc, list.as_slice())?;
         for by in [By::Nothing, By::Number, By::Text, By::Both] {
-            let mut expected = String::new(alloc);
-            for (at, row) in list.iter().enumerate() {
-                if !list[..at].iter().any(|other| same_group(by, *row, *other)) {
-                    expected.push_str(group_text(alloc, by, list.as_slice(), *row)?.as_str())?;
-                }
-            }
-            assert_eq!(rt;
-                groups(alloc, by, &rows)?.as_str(),
-                expected.as_str(),
-                "{seed} {by:?}"
-            );
+            compare_groups(&rt, alloc, by, list.as_slice(), seed)?;
         }
     }
     Ok(())
