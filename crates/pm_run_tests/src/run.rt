@@ -3,6 +3,7 @@ ghost use Rattle.std.specs.Prelude.{◌≡◌, ◌≤◌, map, IfOk, IfSome};
 ghost use Rattle.pm_work.specs.Fits.{Fits};
 ghost use Rattle.pm_flows.specs.Indexes.{index_of};
 ghost use Rattle.pm_flows.specs.KeyColumns.{join_columns};
+ghost use Rattle.pm_run.specs.RunState.{CanTurn};
 ghost use Rattle.pm_commands.specs.Certified.{IsReady};
 
 use pm_commands::{Prepared, prepare};
@@ -101,6 +102,12 @@ fn each(events: u64) -> Option<u64>
     if events == 0 { None } else { Some(events) }
 }
 
+/// Gives the file of this name this text.
+fn put(alloc: Global, files: &mut MemFiles, name: &str, text: &str) -> Result<(), AllocError> {
+    let name = Txt::new(alloc, name)?;
+    files.put(&name, text.as_bytes())
+}
+
 /// The files of the schema and of the statement, and those of tables.
 fn files_of(
     alloc: Global,
@@ -109,12 +116,21 @@ fn files_of(
     tables: &[(&str, &str)],
 ) -> Result<MemFiles, AllocError> {
     let mut files = MemFiles::new(alloc);
-    files.put(&Txt::new(alloc, "s")?, schema.as_bytes())?;
-    files.put(&Txt::new(alloc, "q")?, query.as_bytes())?;
+    put(alloc, &mut files, "s", schema)?;
+    put(alloc, &mut files, "q", query)?;
     for (name, text) in tables {
-        files.put(&Txt::new(alloc, name)?, text.as_bytes())?;
+        put(alloc, &mut files, name, text)?;
     }
     Ok(files)
+}
+
+/// The words of a run whose joins are of this choice.
+fn words_of(alloc: Global, join: &str) -> Result<Vec<Txt>, AllocError> {
+    let mut words = Vec::new(alloc);
+    for word in ["run", "s", "q", "--join", join] {
+        words.push(Txt::new(alloc, word)?)?;
+    }
+    Ok(words)
 }
 
 /// The plan and the tables of the statement, whose joins are of this choice.
@@ -126,35 +142,55 @@ fn planned<R: Threads + Sync + Abort>(
 ) -> Result<Prepared, AllocError>
     ensures { IfOk result IsReady }
 {
-    let mut words = Vec::new(alloc);
-    for word in ["run", "s", "q", "--join", join] {
-        words.push(Txt::new(alloc, word)?)?;
-    }
-    match prepare(rt, alloc, words.as_slice(), files, &OpenGate) {
+    let words = words_of(alloc, join)?;
+    let prepared = prepare(rt, alloc, words.as_slice(), files, &OpenGate);
+    drop(words);
+    match prepared {
         Ok(prepared) => Ok(prepared),
         Err(stop) => panic!(rt; "{stop:?}"),
     }
 }
 
+/// The plan of a statement over the shop's tables.
+fn prepared_for<R: Threads + Sync + Abort>(
+    rt: &R,
+    alloc: Global,
+    query: &str,
+    join: &str,
+) -> Result<Prepared, AllocError>
+    ensures { IfOk result IsReady }
+{
+    let mut files = files_of(alloc, SCHEMA, query, &FILES)?;
+    let prepared = planned(rt, alloc, &mut files, join);
+    drop(files);
+    prepared
+}
+
 /// Where a run stands: its events, the rows that the root handed out, and the work done with the bounds of the whole work.
 type Stand = (u128, u128, Whole);
 
-/// Takes so many turns of a run one by one, or all that are left: where it stands then, and what it wrote.
+/// After how many events a progress line comes, with 0 for none, and how many turns are taken at most.
+type Turns = (u64, u32);
+
+/// Takes turns of a run one by one, and writes into this sink: where the run stands then.
 fn turned(
     rt: &impl Abort,
     alloc: Global,
     prepared: &Prepared,
-    every: u64,
-    count: u32,
-) -> Result<(Stand, MemSink), AllocError>
+    turns: Turns,
+    sink: &mut MemSink,
+) -> Result<Stand, AllocError>
     requires { IsReady prepared.now }
 {
     let plan = &prepared.plan;
     let db = &prepared.request.db;
     let keys = key_columns(alloc, plan)?;
     let indexes = seek_indexes(alloc, plan, db, &keys)?;
-    match turned_over(rt, alloc, plan, db, &keys, &indexes, each(every), count) {
-        Ok(found) => Ok(found),
+    let stand = turned_over(rt, alloc, plan, db, &keys, &indexes, turns, sink);
+    drop(indexes);
+    drop(keys);
+    match stand {
+        Ok(stand) => Ok(stand),
         Err(fault) => panic!(rt; "{fault:?}"),
     }
 }
@@ -167,60 +203,135 @@ fn turned_over(
     db: &Db,
     keys: &KeyColumns,
     indexes: &Indexes<'_>,
-    every: Option<u64>,
-    count: u32,
-) -> Result<(Stand, MemSink), LineBad>
+    turns: Turns,
+    sink: &mut MemSink,
+) -> Result<Stand, LineBad>
     requires fits { Fits plan.now db.now }
     requires keys { keys.now ≡ map join_columns plan.now.nodes }
     requires indexes { indexes.now ≡ map (index_of db.now) plan.now.nodes }
-    requires every { IfSome every (λ n. 1 ≤ n) }
 {
-    let mut run = Run::begin(alloc, plan, db, keys, indexes, every)?;
-    let mut sink = MemSink::new(alloc, 1_000_000)?;
-    run.head(&mut sink)?;
+    let (every, count) = turns;
+    let mut run = Run::begin(alloc, plan, db, keys, indexes, each(every))?;
+    let stand = match run.head(sink) {
+        Ok(()) => take_turns(rt, &mut run, count, sink),
+        Err(fault) => Err(fault),
+    };
+    drop(run);
+    stand
+}
+
+/// Takes so many turns of a run that has taken none, or all that are left: where it stands then.
+fn take_turns(
+    rt: &impl Abort,
+    run: &mut Run<'_>,
+    count: u32,
+    sink: &mut MemSink,
+) -> Result<Stand, LineBad>
+    requires { CanTurn run.old.stage }
+{
     'turns: for taken in 0..count {
         assert_eq!(rt; run.events(), u128::from(taken));
-        match run.turn(&mut sink)? {
+        match run.turn(sink)? {
             Turn::Went => {}
             Turn::Ended => break 'turns,
         }
     }
-    let stand = (run.events(), run.rows(), run.whole());
-    Ok((stand, sink))
+    Ok((run.events(), run.rows(), run.whole()))
 }
 
-/// What a whole run writes.
-fn at_once(
+/// Writes a whole run into this sink.
+fn write_at_once(
     rt: &impl Abort,
     alloc: Global,
     prepared: &Prepared,
     every: u64,
-) -> Result<MemSink, AllocError>
+    sink: &mut MemSink,
+)
+    requires { IsReady prepared.now }
+{
+    let db = &prepared.request.db;
+    match run_all(alloc, &prepared.plan, db, each(every), sink) {
+        Ok(()) => {}
+        Err(fault) => panic!(rt; "{fault:?}"),
+    }
+}
+
+/// Compares what the turns of a run write with a text.
+fn compare_text(
+    rt: &impl Abort,
+    alloc: Global,
+    prepared: &Prepared,
+    every: u64,
+    text: &str,
+    query: &str,
+) -> Result<(), AllocError>
     requires { IsReady prepared.now }
 {
     let mut sink = MemSink::new(alloc, 1_000_000)?;
-    let db = &prepared.request.db;
-    match run_all(alloc, &prepared.plan, db, each(every), &mut sink) {
-        Ok(()) => Ok(sink),
-        Err(fault) => panic!(rt; "{fault:?}"),
+    turned(rt, alloc, prepared, (every, 1000), &mut sink)?;
+    assert_eq!(rt; sink.bytes(), text.as_bytes(), "{query}");
+    Ok(())
+}
+
+/// Compares what the turns of a run write with what a whole run writes.
+fn compare_whole(
+    rt: &impl Abort,
+    alloc: Global,
+    prepared: &Prepared,
+    every: u64,
+    query: &str,
+) -> Result<(), AllocError>
+    requires { IsReady prepared.now }
+{
+    let mut sink = MemSink::new(alloc, 1_000_000)?;
+    turned(rt, alloc, prepared, (every, 1000), &mut sink)?;
+    let mut whole = MemSink::new(alloc, 1_000_000)?;
+    write_at_once(rt, alloc, prepared, every, &mut whole);
+    assert_eq!(rt; sink.bytes(), whole.bytes(), "{query}");
+    Ok(())
+}
+
+/// The same with progress lines after so many events, or without.
+fn compare_each_whole(
+    rt: &impl Abort,
+    alloc: Global,
+    prepared: &Prepared,
+    query: &str,
+) -> Result<(), AllocError>
+    requires { IsReady prepared.now }
+{
+    for every in [0, 1, 2, 5, 100] {
+        compare_whole(rt, alloc, prepared, every, query)?;
     }
+    Ok(())
 }
 
 #[test]
 fn turns_write_what_whole_runs_write(rt: HostRuntime) -> Result<(), Fail> {
     let alloc: Global = rt.alloc();
     for (query, join, shown, text) in cases() {
-        let mut files = files_of(alloc, SCHEMA, query, &FILES)?;
-        let prepared = planned(&rt, alloc, &mut files, join)?;
-        let (_, sink) = turned(&rt, alloc, &prepared, shown, 1000)?;
-        assert_eq!(rt; sink.bytes(), text.as_bytes(), "{query}");
-        for every in [0, 1, 2, 5, 100] {
-            let (_, sink) = turned(&rt, alloc, &prepared, every, 1000)?;
-            let whole = at_once(&rt, alloc, &prepared, every)?;
-            assert_eq!(rt; sink.bytes(), whole.bytes(), "{query}");
-        }
+        let prepared = prepared_for(&rt, alloc, query, join)?;
+        let compared = compare_text(&rt, alloc, &prepared, shown, text, query);
+        let each_compared = compare_each_whole(&rt, alloc, &prepared, query);
+        drop(prepared);
+        compared?;
+        each_compared?;
     }
     Ok(())
+}
+
+/// Where a run of the orders stands after so many turns.
+fn stand_of<R: Threads + Sync + Abort>(
+    rt: &R,
+    alloc: Global,
+    join: &str,
+    turns: Turns,
+) -> Result<Stand, AllocError> {
+    let mut sink = MemSink::new(alloc, 1_000_000)?;
+    let prepared = prepared_for(rt, alloc, ORDERS, join)?;
+    let stand = turned(rt, alloc, &prepared, turns, &mut sink);
+    drop(prepared);
+    stand
 }
 
 #[test]
@@ -235,12 +346,11 @@ fn runs_tell_where_they_stand(rt: HostRuntime) -> Result<(), Fail> {
         ("index", 1, 0, 5, 16),
         ("index", 7, 1, 10, 16),
     ] {
-        let mut files = files_of(alloc, SCHEMA, ORDERS, &FILES)?;
-        let prepared = planned(&rt, alloc, &mut files, join)?;
         let work = u128::from(count.min(13u32));
+        let whole = Whole { work, lo, hi };
         for every in [0, 1, 5] {
-            let (stand, _) = turned(&rt, alloc, &prepared, every, count)?;
-            assert_eq!(rt; stand, (work, rows, Whole { work, lo, hi }), "{join}");
+            let stand = stand_of(&rt, alloc, join, (every, count))?;
+            assert_eq!(rt; stand, (work, rows, whole), "{join}");
         }
     }
     Ok(())
@@ -258,25 +368,63 @@ fn listed(alloc: Global, before: &str, after: &str, count: u32) -> Result<String
     Ok(text)
 }
 
+fn wide_schema(alloc: Global) -> Result<String, AllocError> {
+    let columns = listed(alloc, "c", " INT", 64)?;
+    format!(in alloc; "TABLE wide FROM 'wide.csv' ({columns});")
+}
+
+fn wide_query(alloc: Global) -> Result<String, AllocError> {
+    let names = listed(alloc, "c", "", 64)?;
+    format!(in alloc; "SELECT {names} FROM wide")
+}
+
+/// Two lines of which one has the names of the columns and the other the values of a row, each with a text before it.
+fn wide_lines(alloc: Global, names: &str, values: &str) -> Result<String, AllocError> {
+    let mut lines = String::from_str(alloc, names)?;
+    lines.push_str(listed(alloc, "c", "", 64)?.as_str())?;
+    lines.push_str(values)?;
+    lines.push_str(listed(alloc, "", "", 64)?.as_str())?;
+    lines.push_str("\n")?;
+    Ok(lines)
+}
+
+fn wide_files(alloc: Global) -> Result<MemFiles, AllocError> {
+    let mut files = MemFiles::new(alloc);
+    put(alloc, &mut files, "s", wide_schema(alloc)?.as_str())?;
+    put(alloc, &mut files, "q", wide_query(alloc)?.as_str())?;
+    put(
+        alloc,
+        &mut files,
+        "wide.csv",
+        wide_lines(alloc, "", "\n")?.as_str(),
+    )?;
+    Ok(files)
+}
+
+fn wide_prepared<R: Threads + Sync + Abort>(rt: &R, alloc: Global) -> Result<Prepared, AllocError>
+    ensures { IfOk result IsReady }
+{
+    let mut files = wide_files(alloc)?;
+    let prepared = planned(rt, alloc, &mut files, "auto");
+    drop(files);
+    prepared
+}
+
+/// What a run of the wide table writes.
+fn wide_text(alloc: Global) -> Result<String, AllocError> {
+    let mut text = wide_lines(alloc, "N 1 project 2\nN 2 scan wide wide\nH ", "\nR ")?;
+    text.push_str("E rows=1 work=2\n")?;
+    Ok(text)
+}
+
 #[test]
 fn a_row_has_64_columns(rt: HostRuntime) -> Result<(), Fail> {
     let alloc: Global = rt.alloc();
-    let names = listed(alloc, "c", "", 64)?;
-    let values = listed(alloc, "", "", 64)?;
-    let columns = listed(alloc, "c", " INT", 64)?;
-    let schema = format!(in alloc; "TABLE wide FROM 'wide.csv' ({});", columns.as_str())?;
-    let query = format!(in alloc; "SELECT {} FROM wide", names.as_str())?;
-    let records = format!(in alloc; "{}\n{}\n", names.as_str(), values.as_str())?;
-    let tables = [("wide.csv", records.as_str())];
-    let mut files = files_of(alloc, schema.as_str(), query.as_str(), &tables)?;
-    let prepared = planned(&rt, alloc, &mut files, "auto")?;
-    let (_, sink) = turned(&rt, alloc, &prepared, 0, 1000)?;
-    let text = format!(in alloc;
-        "N 1 project 2\nN 2 scan wide wide\nH {}\nR {}\nE rows=1 work=2\n",
-        names.as_str(),
-        values.as_str()
-    )?;
-    assert_eq!(rt; sink.bytes(), text.as_bytes());
+    let text = wide_text(alloc)?;
+    let prepared = wide_prepared(&rt, alloc)?;
+    let compared = compare_text(&rt, alloc, &prepared, 0, text.as_str(), "64 columns");
+    drop(prepared);
+    compared?;
     Ok(())
 }
 
@@ -287,13 +435,63 @@ const CHAIN: &str =
     "N 1 project 2\nN 2 hash 3 8 unique=none\nN 3 hash 4 7 unique=none\nN 4 hash 5 6 unique=none\n\
 N 5 scan one w\nN 6 scan one x\nN 7 scan one y\nN 8 scan one z\nH n\n";
 
-/// This text so many times.
-fn repeated(alloc: Global, piece: &str, count: u32) -> Result<String, AllocError> {
-    let mut text = String::new(alloc);
-    for _ in 0..count {
-        text.push_str(piece)?;
-    }
+/// The plan of joins of a thousand equal rows with themselves.
+fn chained<R: Threads + Sync + Abort>(rt: &R, alloc: Global) -> Result<Prepared, AllocError>
+    ensures { IfOk result IsReady }
+{
+    let schema = "TABLE one FROM 'one.csv' (n INT NOT NULL);";
+    let mut records = String::from_str(alloc, "n\n")?;
+    records.push_str("1\n".repeat(alloc, 1000)?.as_str())?;
+    let mut files = files_of(alloc, schema, CHAINED, &[("one.csv", records.as_str())])?;
+    let prepared = planned(rt, alloc, &mut files, "hash");
+    drop(files);
+    prepared
+}
+
+/// What such a run writes first, with a progress line after 5000 events.
+fn chain_text(alloc: Global) -> Result<String, AllocError> {
+    let mut text = String::from_str(alloc, CHAIN)?;
+    text.push_str("R 1\n".repeat(alloc, 998)?.as_str())?;
+    text.push_str("P work=5000 lo=8000 hi=2001001004000 ")?;
     Ok(text)
+}
+
+/// Compares where such a run stands after 5000 turns, and what it wrote where a progress line comes then.
+fn compare_chained(
+    rt: &impl Abort,
+    alloc: Global,
+    prepared: &Prepared,
+    every: u64,
+) -> Result<(), AllocError>
+    requires { IsReady prepared.now }
+{
+    let mut sink = MemSink::new(alloc, 1_000_000)?;
+    let stand = turned(rt, alloc, prepared, (every, 5000), &mut sink)?;
+    let whole = Whole {
+        work: 5000,
+        lo: 8000,
+        hi: 2_001_001_004_000,
+    };
+    assert_eq!(rt; stand, (5000, 998, whole));
+    if every == 5000 {
+        let text = chain_text(alloc)?;
+        assert!(rt; sink.bytes().starts_with(text.as_bytes()));
+    }
+    Ok(())
+}
+
+/// The same with progress lines after so many events, or without.
+fn compare_each_chained(
+    rt: &impl Abort,
+    alloc: Global,
+    prepared: &Prepared,
+) -> Result<(), AllocError>
+    requires { IsReady prepared.now }
+{
+    for every in [0, 1, 5000] {
+        compare_chained(rt, alloc, prepared, every)?;
+    }
+    Ok(())
 }
 
 /// Four times a thousand equal rows are joined, so the whole work is of two million million events. The first turns take
@@ -301,26 +499,9 @@ fn repeated(alloc: Global, piece: &str, count: u32) -> Result<String, AllocError
 #[test]
 fn turns_of_a_long_run_take_their_events_alone(rt: HostRuntime) -> Result<(), Fail> {
     let alloc: Global = rt.alloc();
-    let schema = "TABLE one FROM 'one.csv' (n INT NOT NULL);";
-    let records = format!(in alloc; "n\n{}", repeated(alloc, "1\n", 1000)?.as_str())?;
-    let mut files = files_of(alloc, schema, CHAINED, &[("one.csv", records.as_str())])?;
-    let prepared = planned(&rt, alloc, &mut files, "hash")?;
-    let whole = Whole {
-        work: 5000,
-        lo: 8000,
-        hi: 2_001_001_004_000,
-    };
-    for every in [0, 1, 5000] {
-        let (stand, sink) = turned(&rt, alloc, &prepared, every, 5000)?;
-        assert_eq!(rt; stand, (5000, 998, whole));
-        if every == 5000 {
-            let rows = repeated(alloc, "R 1\n", 998)?;
-            let text = format!(in alloc;
-                "{CHAIN}{}P work=5000 lo=8000 hi=2001001004000 ",
-                rows.as_str()
-            )?;
-            assert!(rt; sink.bytes().starts_with(text.as_bytes()));
-        }
-    }
+    let prepared = chained(&rt, alloc)?;
+    let compared = compare_each_chained(&rt, alloc, &prepared);
+    drop(prepared);
+    compared?;
     Ok(())
 }
