@@ -28,28 +28,69 @@ const TABLES: [(&str, &str, u32); 8] = [
     ("sale", "id,cust,amt", 3),
 ];
 
+/// A record that has this number in each column.
+fn record(alloc: Global, header: &str, number: u32) -> Result<String, AllocError> {
+    let mut text = String::new(alloc);
+    for (column, _) in header.split(',').enumerate() {
+        let comma = if column == 0 { "" } else { "," };
+        text.push_str(format!(in alloc; "{comma}{number}")?.as_str())?;
+    }
+    text.push_str("\n")?;
+    Ok(text)
+}
+
 /// A file of so many rows, of which each has its number in each column.
 fn file(alloc: Global, header: &str, rows: u32) -> Result<String, AllocError> {
     let mut text = format!(in alloc; "{header}\n")?;
     for row in 1..=rows {
-        for (column, _) in header.split(',').enumerate() {
-            let comma = if column == 0 { "" } else { "," };
-            text.push_str(format!(in alloc; "{comma}{row}")?.as_str())?;
-        }
-        text.push_str("\n")?;
+        text.push_str(record(alloc, header, row)?.as_str())?;
     }
     Ok(text)
 }
 
+/// Gives the file of this name this text.
+fn put(alloc: Global, files: &mut MemFiles, name: &str, text: &str) -> Result<(), AllocError> {
+    let name = Txt::new(alloc, name)?;
+    files.put(&name, text.as_bytes())
+}
+
 fn files(alloc: Global, query: &str) -> Result<MemFiles, AllocError> {
     let mut files = MemFiles::new(alloc);
-    files.put(&Txt::new(alloc, "s")?, SCHEMA.as_bytes())?;
-    files.put(&Txt::new(alloc, "q")?, query.as_bytes())?;
+    put(alloc, &mut files, "s", SCHEMA)?;
+    put(alloc, &mut files, "q", query)?;
     for (name, header, rows) in TABLES {
-        let text = file(alloc, header, rows)?;
-        files.put(&Txt::new(alloc, name)?, text.as_bytes())?;
+        put(alloc, &mut files, name, file(alloc, header, rows)?.as_str())?;
     }
     Ok(files)
+}
+
+/// The words of an `explain` with this choice of joins.
+fn words_of(alloc: Global, join: &str) -> Result<Vec<Txt>, AllocError> {
+    let mut words = Vec::new(alloc);
+    for word in ["explain", "s", "q", "--join", join] {
+        words.push(Txt::new(alloc, word)?)?;
+    }
+    Ok(words)
+}
+
+/// Writes what `explain` writes of a query with this choice of joins, and nothing where it is refused.
+fn explain<R: Threads + Sync>(
+    rt: &R,
+    alloc: Global,
+    join: &str,
+    query: &str,
+    out: &mut MemSink,
+) -> Result<(), AllocError> {
+    let words = words_of(alloc, join)?;
+    let mut files = files(alloc, query)?;
+    let prepared = prepare(rt, alloc, words.as_slice(), &mut files, &OpenGate);
+    if let Ok(prepared) = &prepared {
+        write(alloc, prepared, out).ok();
+    }
+    drop(prepared);
+    drop(files);
+    drop(words);
+    Ok(())
 }
 
 /// What `explain` writes of a query with this choice of joins, and nothing where it is refused.
@@ -59,14 +100,7 @@ pub fn explained<R: Threads + Sync>(
     join: &str,
     query: &str,
 ) -> Result<MemSink, AllocError> {
-    let mut words = Vec::new(alloc);
-    for word in ["explain", "s", "q", "--join", join] {
-        words.push(Txt::new(alloc, word)?)?;
-    }
-    let mut files = files(alloc, query)?;
     let mut out = MemSink::new(alloc, 4096)?;
-    if let Ok(prepared) = prepare(rt, alloc, words.as_slice(), &mut files, &OpenGate) {
-        write(alloc, &prepared, &mut out).ok();
-    }
+    explain(rt, alloc, join, query, &mut out)?;
     Ok(out)
 }
