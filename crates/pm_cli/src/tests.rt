@@ -82,6 +82,15 @@ fn shop(alloc: Global, query: &str, items: &str) -> Result<MemFiles, AllocError>
     Ok(files)
 }
 
+/// Words parted by blanks.
+fn words_of(alloc: Global, words: &str) -> Result<Vec<Txt>, AllocError> {
+    let mut list = Vec::new(alloc);
+    for word in words.split_whitespace() {
+        list.push(Txt::new(alloc, word)?)?;
+    }
+    Ok(list)
+}
+
 /// The command of these words, parted by blanks.
 fn command<R: Threads + Sync, S: Sink>(
     rt: &R,
@@ -90,81 +99,88 @@ fn command<R: Threads + Sync, S: Sink>(
     files: &mut MemFiles,
     out: &mut S,
 ) -> Result<Status, AllocError> {
-    let mut list = Vec::new(alloc);
-    for word in words.split_whitespace() {
-        list.push(Txt::new(alloc, word)?)?;
-    }
+    let list = words_of(alloc, words)?;
     Ok(monitor_main(rt, alloc, list.as_slice(), files, out, &OpenGate))
 }
+
+/// The command of these words over the shop's files.
+fn shop_command<R: Threads + Sync, S: Sink>(
+    rt: &R,
+    alloc: Global,
+    words: &str,
+    query: &str,
+    items: &str,
+    out: &mut S,
+) -> Result<Status, AllocError> {
+    let mut files = shop(alloc, query, items)?;
+    let status = command(rt, alloc, words, &mut files, out);
+    drop(files);
+    status
+}
+
+/// The words, the query, the file of the items, and the status' code and what is written.
+const COMMANDS: [(&str, &str, &str, u8, &str); 19] = [
+    ("run s q", QUERY, ITEMS, 0, WHOLE),
+    ("explain s q", QUERY, ITEMS, 0, EXPLAINED),
+    ("run s q --progress off --workers 8", QUERY, ITEMS, 0, ROWS),
+    (
+        "run s q --join=index --progress=off",
+        QUERY,
+        ITEMS,
+        0,
+        LOOKED_UP,
+    ),
+    ("run s q --progress off", GROUPED, ITEMS, 0, GROUPS),
+    ("demo 2 --workers=2", "", "", 0, DEMO),
+    ("", QUERY, ITEMS, 1, "! 1 usage\n"),
+    ("walk s q", QUERY, ITEMS, 1, "! 1 usage\n"),
+    ("run s", QUERY, ITEMS, 1, "! 1 usage\n"),
+    ("run s q --every 0", QUERY, ITEMS, 1, "! 1 usage\n"),
+    (
+        "run s q --every 1 --every 2",
+        QUERY,
+        ITEMS,
+        1,
+        "! 1 usage\n",
+    ),
+    ("explain s q --workers 65", QUERY, ITEMS, 1, "! 1 usage\n"),
+    ("demo 0", QUERY, ITEMS, 1, "! 1 usage\n"),
+    ("run q q", QUERY, ITEMS, 2, "! 2 expected 0\n"),
+    ("run s q", "SELECT id FROM", ITEMS, 3, "! 3 expected 14\n"),
+    (
+        "run s q",
+        "SELECT id FROM shop",
+        ITEMS,
+        4,
+        "! 4 notable 15\n",
+    ),
+    (
+        "run s q",
+        QUERY,
+        "code,price\ntea,1\noil,2\ntea,3\n",
+        5,
+        "! 5 doublekey item 1 3\n",
+    ),
+    ("run s q --workers 8", QUERY, "", 6, "! 6 nofile item.csv\n"),
+    ("explain nowhere q", QUERY, ITEMS, 6, "! 6 nofile nowhere\n"),
+];
 
 #[test]
 fn commands_write_their_text(rt: HostRuntime) -> Result<(), Fail> {
     let alloc: Global = rt.alloc();
-    for (words, query, items, code, text) in [
-        ("run s q", QUERY, ITEMS, 0, WHOLE),
-        ("explain s q", QUERY, ITEMS, 0, EXPLAINED),
-        ("run s q --progress off --workers 8", QUERY, ITEMS, 0, ROWS),
-        (
-            "run s q --join=index --progress=off",
-            QUERY,
-            ITEMS,
-            0,
-            LOOKED_UP,
-        ),
-        ("run s q --progress off", GROUPED, ITEMS, 0, GROUPS),
-        ("demo 2 --workers=2", "", "", 0, DEMO),
-        ("", QUERY, ITEMS, 1, "! 1 usage\n"),
-        ("walk s q", QUERY, ITEMS, 1, "! 1 usage\n"),
-        ("run s", QUERY, ITEMS, 1, "! 1 usage\n"),
-        ("run s q --every 0", QUERY, ITEMS, 1, "! 1 usage\n"),
-        (
-            "run s q --every 1 --every 2",
-            QUERY,
-            ITEMS,
-            1,
-            "! 1 usage\n",
-        ),
-        ("explain s q --workers 65", QUERY, ITEMS, 1, "! 1 usage\n"),
-        ("demo 0", QUERY, ITEMS, 1, "! 1 usage\n"),
-        ("run q q", QUERY, ITEMS, 2, "! 2 expected 0\n"),
-        ("run s q", "SELECT id FROM", ITEMS, 3, "! 3 expected 14\n"),
-        (
-            "run s q",
-            "SELECT id FROM shop",
-            ITEMS,
-            4,
-            "! 4 notable 15\n",
-        ),
-        (
-            "run s q",
-            QUERY,
-            "code,price\ntea,1\noil,2\ntea,3\n",
-            5,
-            "! 5 doublekey item 1 3\n",
-        ),
-        ("run s q --workers 8", QUERY, "", 6, "! 6 nofile item.csv\n"),
-        ("explain nowhere q", QUERY, ITEMS, 6, "! 6 nofile nowhere\n"),
-    ] {
-        let mut files = shop(alloc, query, items)?;
+    for (words, query, items, code, text) in COMMANDS {
         let mut out = MemSink::new(alloc, 4096)?;
-        let status = command(&rt, alloc, words, &mut files, &mut out)?;
+        let status = shop_command(&rt, alloc, words, query, items, &mut out)?;
         assert_eq!(rt; status.code(), code, "{words}");
         assert_eq!(rt; out.bytes(), text.as_bytes(), "{words}");
     }
     Ok(())
 }
 
-// Eight sources of so many keyless rows.
-#[test]
-fn wide_plans_are_refused(rt: HostRuntime) -> Result<(), Fail> {
-    let alloc: Global = rt.alloc();
+/// The files of a statement over a table of one column with so many rows of ones.
+fn ones(alloc: Global, query: &str, rows: usize) -> Result<MemFiles, AllocError> {
     let mut table = String::from_str(alloc, "x\n")?;
-    for _ in 0..20_000 {
-        table.push_str("1\n")?;
-    }
-    let query =
-        "SELECT a.x FROM n a JOIN n b ON a.x = b.x JOIN n c ON a.x = c.x JOIN n d ON a.x = d.x \
-JOIN n e ON a.x = e.x JOIN n f ON a.x = f.x JOIN n g ON a.x = g.x JOIN n h ON a.x = h.x";
+    table.push_str("1\n".repeat(alloc, rows)?.as_str())?;
     let mut files = MemFiles::new(alloc);
     put(
         alloc,
@@ -174,8 +190,33 @@ JOIN n e ON a.x = e.x JOIN n f ON a.x = f.x JOIN n g ON a.x = g.x JOIN n h ON a.
     )?;
     put(alloc, &mut files, "q", query)?;
     put(alloc, &mut files, "n.csv", table.as_str())?;
+    Ok(files)
+}
+
+/// The command of these words over such files.
+fn ones_command<R: Threads + Sync, S: Sink>(
+    rt: &R,
+    alloc: Global,
+    words: &str,
+    query: &str,
+    rows: usize,
+    out: &mut S,
+) -> Result<Status, AllocError> {
+    let mut files = ones(alloc, query, rows)?;
+    let status = command(rt, alloc, words, &mut files, out);
+    drop(files);
+    status
+}
+
+// Eight sources of so many keyless rows.
+#[test]
+fn wide_plans_are_refused(rt: HostRuntime) -> Result<(), Fail> {
+    let alloc: Global = rt.alloc();
+    let query =
+        "SELECT a.x FROM n a JOIN n b ON a.x = b.x JOIN n c ON a.x = c.x JOIN n d ON a.x = d.x \
+JOIN n e ON a.x = e.x JOIN n f ON a.x = f.x JOIN n g ON a.x = g.x JOIN n h ON a.x = h.x";
     let mut out = MemSink::new(alloc, 4096)?;
-    let status = command(&rt, alloc, "run s q", &mut files, &mut out)?;
+    let status = ones_command(&rt, alloc, "run s q", query, 20_000, &mut out)?;
     assert_eq!(rt; status.code(), 9);
     let line = "! 9 toowide 51201280064003200160008000400160000\n";
     assert_eq!(rt; out.bytes(), line.as_bytes());

@@ -1,10 +1,10 @@
 //! Files that are no tables, settings at their ends, wide tables, and two commands beside each other.
 ghost use Rattle.std.specs.Thread.{IsSync};
 
-use super::{EXPLAINED, ITEMS, QUERY, ROWS, WHOLE, command, put, shop};
+use super::{EXPLAINED, ITEMS, QUERY, ROWS, WHOLE, command, put, shop, shop_command, words_of};
 use crate::{Status, monitor_main};
 use pm_io::{MemFiles, MemSink};
-use pm_values::{Gate, Txt};
+use pm_values::Gate;
 use std::alloc::{AllocError, Global};
 use std::marker::Sync;
 use std::sync::atomic::{AtomicU64, Ordering};
@@ -19,9 +19,8 @@ fn written<R: Threads + Sync>(
     query: &str,
     items: &str,
 ) -> Result<(Status, MemSink), AllocError> {
-    let mut files = shop(alloc, query, items)?;
     let mut out = MemSink::new(alloc, 4096)?;
-    let status = command(rt, alloc, words, &mut files, &mut out)?;
+    let status = shop_command(rt, alloc, words, query, items, &mut out)?;
     Ok((status, out))
 }
 
@@ -127,46 +126,90 @@ fn numbered(alloc: Global, before: &str, count: u32, behind: &str) -> Result<Str
     Ok(text)
 }
 
+/// The schema of a table of so many columns.
+fn wide_schema(alloc: Global, columns: u32) -> Result<String, AllocError> {
+    let declared = numbered(alloc, "c", columns, " INT")?;
+    format!(in alloc; "TABLE wide FROM 'wide.csv' ({declared});")
+}
+
+/// The file of such a table, of one row.
+fn wide_table(alloc: Global, columns: u32) -> Result<String, AllocError> {
+    let mut text = numbered(alloc, "c", columns, "")?;
+    text.push_str("\n")?;
+    text.push_str(numbered(alloc, "", columns, "")?.as_str())?;
+    text.push_str("\n")?;
+    Ok(text)
+}
+
+fn wide_files(alloc: Global, columns: u32) -> Result<MemFiles, AllocError> {
+    let query = "SELECT c1, c64 FROM wide WHERE c64 > c1";
+    let mut files = MemFiles::new(alloc);
+    put(
+        alloc,
+        &mut files,
+        "s",
+        wide_schema(alloc, columns)?.as_str(),
+    )?;
+    put(alloc, &mut files, "q", query)?;
+    put(
+        alloc,
+        &mut files,
+        "wide.csv",
+        wide_table(alloc, columns)?.as_str(),
+    )?;
+    Ok(files)
+}
+
+/// Writes what a run over such a table writes.
+fn write_wide<R: Threads + Sync>(
+    rt: &R,
+    alloc: Global,
+    columns: u32,
+    out: &mut MemSink,
+) -> Result<Status, AllocError> {
+    let mut files = wide_files(alloc, columns)?;
+    let status = command(rt, alloc, "run s q --progress off", &mut files, out);
+    drop(files);
+    status
+}
+
 #[test]
 fn a_table_has_64_columns_at_most(rt: HostRuntime) -> Result<(), Fail> {
     let alloc: Global = rt.alloc();
     let wide =
         "N 1 project 2\nN 2 filter 3\nN 3 scan wide wide\nH c1,c64\nR 1,64\nE rows=1 work=3\n";
     for (columns, text) in [(64, wide), (65, "! 2 toomany 531\n")] {
-        let declared = numbered(alloc, "c", columns, " INT")?;
-        let schema = format!(in alloc; "TABLE wide FROM 'wide.csv' ({declared});")?;
-        let names = numbered(alloc, "c", columns, "")?;
-        let numbers = numbered(alloc, "", columns, "")?;
-        let csv = format!(in alloc; "{names}\n{numbers}\n")?;
-        let mut files = MemFiles::new(alloc);
-        put(alloc, &mut files, "s", schema.as_str())?;
-        put(
-            alloc,
-            &mut files,
-            "q",
-            "SELECT c1, c64 FROM wide WHERE c64 > c1",
-        )?;
-        put(alloc, &mut files, "wide.csv", csv.as_str())?;
         let mut out = MemSink::new(alloc, 4096)?;
-        command(&rt, alloc, "run s q --progress off", &mut files, &mut out)?;
+        write_wide(&rt, alloc, columns, &mut out)?;
         assert_eq!(rt; out.bytes(), text.as_bytes());
     }
     Ok(())
+}
+
+/// What the command of these words over these files writes.
+fn written_over<R: Threads + Sync>(
+    rt: &R,
+    alloc: Global,
+    words: &str,
+    files: &mut MemFiles,
+) -> Result<MemSink, AllocError> {
+    let mut out = MemSink::new(alloc, 4096)?;
+    command(rt, alloc, words, files, &mut out)?;
+    Ok(out)
 }
 
 #[test]
 fn commands_one_after_another(rt: HostRuntime) -> Result<(), Fail> {
     let alloc: Global = rt.alloc();
     let mut files = shop(alloc, QUERY, ITEMS)?;
-    let mut first = MemSink::new(alloc, 4096)?;
-    let mut second = MemSink::new(alloc, 4096)?;
-    let mut third = MemSink::new(alloc, 4096)?;
-    command(&rt, alloc, "run s q", &mut files, &mut first)?;
-    command(&rt, alloc, "explain s q", &mut files, &mut second)?;
-    command(&rt, alloc, "run s q", &mut files, &mut third)?;
-    assert_eq!(rt; first.bytes(), WHOLE.as_bytes());
-    assert_eq!(rt; second.bytes(), EXPLAINED.as_bytes());
-    assert_eq!(rt; third.bytes(), WHOLE.as_bytes());
+    for (words, text) in [
+        ("run s q", WHOLE),
+        ("explain s q", EXPLAINED),
+        ("run s q", WHOLE),
+    ] {
+        let out = written_over(&rt, alloc, words, &mut files)?;
+        assert_eq!(rt; out.bytes(), text.as_bytes());
+    }
     Ok(())
 }
 
@@ -222,22 +265,26 @@ impl Gate for Meeting {
     }
 }
 
-#[test]
-fn two_parts_are_typed_at_once(rt: HostRuntime) -> Result<(), Fail> {
-    let alloc: Global = rt.alloc();
+/// Runs a statement over the shop's files by two workers, past this gate.
+fn run_past<R: Threads + Sync>(
+    rt: &R,
+    alloc: Global,
+    gate: &Meeting,
+) -> Result<Status, AllocError> {
     let mut files = shop(alloc, "SELECT id FROM sale", ITEMS)?;
     let mut out = MemSink::new(alloc, 4096)?;
+    let words = words_of(alloc, "run s q --workers 2")?;
+    Ok(monitor_main(rt, alloc, words.as_slice(), &mut files, &mut out, gate))
+}
+
+#[test]
+fn two_parts_are_typed_at_once(rt: HostRuntime) -> Result<(), Fail> {
     let gate = Meeting {
         first: AtomicU64::new(0),
         second: AtomicU64::new(0),
         missed: AtomicU64::new(0),
     };
-    let mut words = Vec::new(alloc);
-    for word in ["run", "s", "q", "--workers", "2"] {
-        words.push(Txt::new(alloc, word)?)?;
-    }
-    let status = monitor_main(&rt, alloc, words.as_slice(), &mut files, &mut out, &gate);
-    assert_eq!(rt; status, Status::Done);
+    assert_eq!(rt; run_past(&rt, rt.alloc(), &gate)?, Status::Done);
     assert!(rt; gate.first.load(Ordering::SeqCst) == 1 && gate.second.load(Ordering::SeqCst) == 1);
     assert!(rt; gate.missed.load(Ordering::SeqCst) == 0);
     Ok(())

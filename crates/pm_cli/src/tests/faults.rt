@@ -1,11 +1,13 @@
 //! Each read and each write refused in turn, and when the output is finished.
 ghost use Rattle.std.specs.Prelude.{None};
 
-use super::{ITEMS, QUERY, WHOLE, command, put, shop};
+use super::{ITEMS, QUERY, WHOLE, command, ones_command, shop, shop_command};
 use crate::{Role, Status};
-use pm_io::{IoFault, MemFiles, MemSink, Sink};
-use std::alloc::Global;
+use pm_io::{IoFault, MemSink, Sink};
+use std::alloc::{AllocError, Global};
+use std::marker::Sync;
 use std::test::Fail;
+use std::thread::Threads;
 
 /// A sink whose write with this number fails, counted from 1, and which counts how often it is finished.
 #[derive(Drop)]
@@ -73,9 +75,8 @@ const ENDS: [(&str, u64, bool, u8, u64, &str); 7] = [
 fn the_output_is_finished_once(rt: HostRuntime) -> Result<(), Fail> {
     let alloc: Global = rt.alloc();
     for (words, fails, finish_fails, code, finishes, text) in ENDS {
-        let mut files = shop(alloc, QUERY, ITEMS)?;
         let mut out = Counting::new(alloc, fails, finish_fails);
-        let status = command(&rt, alloc, words, &mut files, &mut out)?;
+        let status = shop_command(&rt, alloc, words, QUERY, ITEMS, &mut out)?;
         assert_eq!(rt; status.code(), code, "{words} {fails}");
         assert_eq!(rt; out.finishes, finishes, "{words} {fails}");
         assert_eq!(rt; out.bytes.as_slice(), text.as_bytes(), "{words} {fails}");
@@ -88,9 +89,8 @@ fn each_write_fails_in_turn(rt: HostRuntime) -> Result<(), Fail> {
     let alloc: Global = rt.alloc();
     let mut done: u64 = 0;
     for write in 1..60 {
-        let mut files = shop(alloc, QUERY, ITEMS)?;
         let mut out = Counting::new(alloc, write, false);
-        let status = command(&rt, alloc, "run s q", &mut files, &mut out)?;
+        let status = shop_command(&rt, alloc, "run s q", QUERY, ITEMS, &mut out)?;
         assert!(rt; WHOLE.as_bytes().starts_with(out.bytes.as_slice()));
         if status == Status::Done {
             assert_eq!(rt; out.bytes.len(), WHOLE.len());
@@ -114,16 +114,28 @@ const READ: [(Role, &str); 4] = [
     (Role::Table(0), "! 7 read item.csv\n"),
 ];
 
+/// A run of the shop's query by reads of 16 bytes, of which the call with this number fails.
+fn read_with_fault<R: Threads + Sync>(
+    rt: &R,
+    alloc: Global,
+    call: u64,
+    out: &mut Counting,
+) -> Result<Status, AllocError> {
+    let mut files = shop(alloc, QUERY, ITEMS)?;
+    files.fail_at(call)?;
+    files.piece(16);
+    let status = command(rt, alloc, "run s q", &mut files, out);
+    drop(files);
+    status
+}
+
 #[test]
 fn each_read_fails_in_turn(rt: HostRuntime) -> Result<(), Fail> {
     let alloc: Global = rt.alloc();
     let mut calls: [u64; 5] = [0; 5];
     for call in 1..60 {
-        let mut files = shop(alloc, QUERY, ITEMS)?;
-        files.fail_at(call)?;
-        files.piece(16);
         let mut out = Counting::new(alloc, 0, false);
-        let status = command(&rt, alloc, "run s q", &mut files, &mut out)?;
+        let status = read_with_fault(&rt, alloc, call, &mut out)?;
         let mut place: usize = 4;
         for (at, (role, line)) in READ.iter().enumerate() {
             if status == (Status::ReadFault { role: *role }) {
@@ -149,22 +161,12 @@ fn each_read_fails_in_turn(rt: HostRuntime) -> Result<(), Fail> {
 #[test]
 fn a_long_run_writes_as_it_goes(rt: HostRuntime) -> Result<(), Fail> {
     let alloc: Global = rt.alloc();
-    let table = "1\n".repeat(alloc, 1000)?;
-    let table = format!(in alloc; "x\n{table}")?;
     let query =
         "SELECT a.x FROM n a JOIN n b ON a.x = b.x JOIN n c ON b.x = c.x JOIN n d ON c.x = d.x";
-    let mut files = MemFiles::new(alloc);
-    put(
-        alloc,
-        &mut files,
-        "s",
-        "TABLE n FROM 'n.csv' (x INT NOT NULL);",
-    )?;
-    put(alloc, &mut files, "q", query)?;
-    put(alloc, &mut files, "n.csv", table.as_str())?;
     let mut out = MemSink::new(alloc, 1_000_000)?;
     out.fail_at(5000)?;
-    let status = command(&rt, alloc, "run s q --join hash", &mut files, &mut out)?;
+    let words = "run s q --join hash";
+    let status = ones_command(&rt, alloc, words, query, 1000, &mut out)?;
     assert_eq!(rt; status, Status::WriteFault);
     let lines = out.bytes().iter().filter(|byte| **byte == b'\n').count();
     assert_eq!(rt; lines, 4999);
