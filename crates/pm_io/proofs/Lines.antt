@@ -3,7 +3,7 @@ use Rattle.std.proofs.Common.{◌≡◌, ◌<◌, ◌≤◌, ◌+◌, ℕ, List,
 use Rattle.std.proofs.Math.Nat.{eq-or-lt_of_le}
 use Rattle.std.proofs.lemmas.List.{same_from_push}
 use Rattle.pm_io.specs.declared.line_start.LineStart.{LineStart}
-use Rattle.pm_io.specs.declared.line_start.LineStart.TheVariants.{Progress}
+use Rattle.pm_io.specs.declared.line_start.LineStart.TheVariants.{Empty, Progress}
 use Rattle.pm_io.specs.LineStart.{start_of, grown, line_after, EndsProgress}
 
 line_after-last : (line bytes : List ℕ) (byte : ℕ) →
@@ -28,6 +28,12 @@ pub known_next : (line bytes : List ℕ) (at : ℕ) (known : LineStart) → at <
     known ≡ start_of (line_after line (take (at + 1) bytes))
 known_next line bytes at known within is =
     is ∙ ap start_of (sym (ap (line_after line) (take_next bytes at within) ∙ line_after-last line (take at bytes) _))
+
+-- a line feed begins the next line
+pub empty_after_feed : (line bytes : List ℕ) (at : ℕ) → at < length bytes → get_or bytes at 0 ≡ 10 →
+    start_of (line_after line (take (at + 1) bytes)) ≡ Empty
+empty_after_feed line bytes at within feed =
+    sym (known_next line bytes at Empty within (sym (ap (λ byte. start_of (grown (line_after line (take at bytes)) byte)) feed)))
 
 -- a byte that does not end a progress line
 unended_next : (line bytes : List ℕ) (at : ℕ) (known : LineStart) → at < length bytes →

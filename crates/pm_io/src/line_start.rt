@@ -22,8 +22,9 @@ impl LineStart {
     {
         match (self, byte) {
             (_, b'\n') => LineStart::Empty,
+            (LineStart::Progress | LineStart::Other, _) => self,
             (LineStart::Empty, b'P') => LineStart::Letter,
-            (LineStart::Letter, b' ') | (LineStart::Progress, _) => LineStart::Progress,
+            (LineStart::Letter, b' ') => LineStart::Progress,
             _ => LineStart::Other,
         }
     }

@@ -40,6 +40,7 @@ impl<W: Write + Drop> Model for Outlet<W> {
 }
 
 impl<W: Write + Drop> Outlet<W> {
+    ghost use Rattle.pm_io.specs.declared.line_start.LineStart.TheVariants.{Empty};
     ghost use Rattle.pm_io.specs.LineStart.{start_of, line_after, EndsProgress};
 
     /// Nothing is gathered yet.
@@ -113,7 +114,8 @@ impl<W: Write + Drop> Outlet<W> {
 
     /// Passes on what was gathered and then the end of a progress line, or a first part of that end.
     fn pass_line(&mut self, end: &[u8]) -> Result<usize, IoFault>
-        requires { 0 < length end.now }
+        requires some { 0 < length end.now }
+        requires feed { (line : List ℕ) → self.old.line ≡ start_of line → start_of (line_after line end.now) ≡ Empty }
         ensures some { IfOk result (λ n. 0 < n) }
         ensures amount { IfOk result (λ n. n ≤ length end.now) }
         ensures bytes { WriteAppends self.old.taken self.new.taken result end.now }
@@ -124,7 +126,11 @@ impl<W: Write + Drop> Outlet<W> {
     {
         self.pass_on()?;
         let n = write_some(&mut self.writer, end)?;
-        self.line = self.line.after_all(&end[..n]);
+        self.line = if n == end.len() {
+            LineStart::Empty
+        } else {
+            self.line.after_all(&end[..n])
+        };
         Ok(n)
     }
 
