@@ -1,3 +1,4 @@
+pub mod Feeds
 pub mod Gathered
 pub mod Lines
 pub mod Outside

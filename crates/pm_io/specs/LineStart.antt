@@ -1,5 +1,5 @@
 -- what is known of a line by its first bytes
-use Rattle.std.specs.Prelude.{◌≡◌, ◌==◌, ◌&&◌, ℕ, List, [], ◌∷◌, ◌++◌, if◌then◌else◌}
+use Rattle.std.specs.Prelude.{◌≡◌, ◌==◌, ◌&&◌, ℕ, Bool, true, false, List, [], ◌∷◌, ◌++◌, if◌then◌else◌}
 use Rattle.pm_io.specs.declared.line_start.LineStart.{LineStart}
 use Rattle.pm_io.specs.declared.line_start.LineStart.TheVariants.{Empty, Letter, Progress, Other}
 
@@ -8,6 +8,13 @@ abbrev pub start_of : List ℕ → LineStart
 start_of [] = Empty
 start_of (first ∷ []) = (if first == 80 then Letter else Other)
 start_of (first ∷ second ∷ rest) = (if first == 80 && second == 32 then Progress else Other)
+
+-- the bytes before its line feed no longer change what is known of the line
+abbrev pub is_known : LineStart → Bool
+is_known Empty = false
+is_known Letter = false
+is_known Progress = true
+is_known Other = true
 
 -- the line after one more byte; after a line feed the next one begins
 abbrev pub grown : List ℕ → ℕ → List ℕ

@@ -1,6 +1,6 @@
-ghost use Rattle.std.specs.Prelude.{◌≡◌, ◌↔◌, ℕ, List, IsTrue};
+ghost use Rattle.std.specs.Prelude.{◌≡◌, ◌≢◌, ◌↔◌, ℕ, List, All, IsTrue};
 ghost use Rattle.pm_io.specs.declared.line_start.LineStart.TheVariants.{Progress};
-ghost use Rattle.pm_io.specs.LineStart.{start_of, grown, line_after};
+ghost use Rattle.pm_io.specs.LineStart.{start_of, is_known, grown, line_after};
 
 /// What is known of a line by the bytes that it has so far.
 #[derive(Clone, Copy)]
@@ -16,24 +16,44 @@ pub enum LineStart {
 }
 
 impl LineStart {
+    /// Whether it is known if this is a progress line, whatever bytes follow before its line feed.
+    fn is_known(self) -> bool
+        ensures { result ≡ is_known self }
+    {
+        matches!(self, LineStart::Progress | LineStart::Other)
+    }
+
+    pub fn is_progress(self) -> bool
+        ensures { IsTrue result ↔ (self ≡ Progress) }
+    {
+        matches!(self, LineStart::Progress)
+    }
+
     /// What is known after one more byte. After a line feed the next line begins.
-    pub fn after(self, byte: u8) -> Self
+    fn after(self, byte: u8) -> Self
         ensures { (line : List ℕ) → self ≡ start_of line → result ≡ start_of (grown line byte) }
     {
         match (self, byte) {
             (_, b'\n') => LineStart::Empty,
-            (LineStart::Progress | LineStart::Other, _) => self,
             (LineStart::Empty, b'P') => LineStart::Letter,
-            (LineStart::Letter, b' ') => LineStart::Progress,
+            (LineStart::Letter, b' ') | (LineStart::Progress, _) => LineStart::Progress,
             _ => LineStart::Other,
         }
     }
 
-    /// Whether this byte ends a progress line.
-    pub fn ends_progress(self, byte: u8) -> bool
-        ensures { IsTrue result ↔ ((self ≡ Progress) × (byte ≡ 10)) }
+    /// What is known after these bytes, none of which is a line feed. At most the first two are looked at.
+    pub fn after_part(self, part: &[u8]) -> Self
+        requires { All (λ byte. byte ≢ 10) part.now }
+        ensures { (line : List ℕ) → self ≡ start_of line → result ≡ start_of (line_after line part.now) }
     {
-        matches!((self, byte), (LineStart::Progress, b'\n'))
+        let mut line = self;
+        for &byte in part {
+            if line.is_known() {
+                return line;
+            }
+            line = line.after(byte);
+        }
+        line
     }
 
     /// What is known after these bytes.

@@ -4,6 +4,7 @@ ghost use Rattle.std.specs.Io.KnownBytes.{Keeps, Appends, WriteAppends};
 use crate::fault::IoFault;
 use crate::line_start::LineStart;
 use arrayvec::ArrayVec;
+use memchr::memchr;
 use std::io::{ErrorKind, Write};
 use std::marker::Model;
 
@@ -74,13 +75,16 @@ impl<W: Write + Drop> Outlet<W> {
         }
         let front = &piece[..piece.len().min(self.gathered.remaining_capacity())];
         let mut line = self.line;
-        for (at, &byte) in front.iter().enumerate() {
-            if line.ends_progress(byte) {
-                return self.pass_line(&front[..at + 1]);
+        let mut at = 0;
+        while let Some(n) = memchr(b'\n', &front[at..]) {
+            let feed = at + n;
+            if line.after_part(&front[at..feed]).is_progress() {
+                return self.pass_line(&front[..feed + 1]);
             }
-            line = line.after(byte);
+            line = LineStart::Empty;
+            at = feed + 1;
         }
-        self.line = line;
+        self.line = line.after_part(&front[at..]);
         self.gather(front);
         Ok(front.len())
     }
