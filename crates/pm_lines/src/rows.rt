@@ -11,6 +11,9 @@ use pm_io::{Sink, write_whole};
 use pm_values::Txt;
 use std::alloc::{AllocError, Global};
 
+/// The bytes for which a line of a record has room from its start on. A longer one moves as it grows.
+const USUAL: usize = 256;
+
 /// Writes the header line of these column names.
 pub fn put_head<S: Sink>(alloc: Global, sink: &mut S, names: &[Txt]) -> Result<(), LineBad>
     ensures whole { OnOk result (S.written sink.new ≡ gained (S.written sink.old) (head_line names.now)) }
@@ -18,7 +21,7 @@ pub fn put_head<S: Sink>(alloc: Global, sink: &mut S, names: &[Txt]) -> Result<(
     ensures failed { result ≡ Err LineBad.Write → Rose (S.faults sink.old) (S.faults sink.new) }
     ensures faults { S.faults sink.old ≤ S.faults sink.new }
 {
-    let line = with_record(Vec::from_slice(alloc, b"H ")?, alloc, names)?;
+    let line = with_record(alloc, b"H ", names)?;
     write_whole(sink, line.as_slice())?;
     Ok(())
 }
@@ -30,18 +33,20 @@ pub fn put_row<S: Sink>(alloc: Global, sink: &mut S, fields: &[Txt]) -> Result<(
     ensures failed { result ≡ Err LineBad.Write → Rose (S.faults sink.old) (S.faults sink.new) }
     ensures faults { S.faults sink.old ≤ S.faults sink.new }
 {
-    let line = with_record(Vec::from_slice(alloc, b"R ")?, alloc, fields)?;
+    let line = with_record(alloc, b"R ", fields)?;
     write_whole(sink, line.as_slice())?;
     Ok(())
 }
 
 /// These bytes, and the fields as a CSV record after them.
-fn with_record(before: Vec<u8>, alloc: Global, fields: &[Txt]) -> Result<Vec<u8>, AllocError>
-    ensures { IfOk result (λ line. line.items ≡ before.items ++ row_text default_writer fields.now) }
+fn with_record(alloc: Global, before: &[u8], fields: &[Txt]) -> Result<Vec<u8>, AllocError>
+    ensures { IfOk result (λ line. line.items ≡ before.now ++ row_text default_writer fields.now) }
 {
+    let mut line = Vec::with_capacity(alloc, USUAL)?;
+    line.extend_from_slice(before)?;
     match fields.split_first() {
-        Some((first, rest)) if is_plain(first, rest) => with_plain(before, first, rest),
-        _ => with_quoted(before, alloc, fields),
+        Some((first, rest)) if is_plain(first, rest) => with_plain(line, first, rest),
+        _ => with_quoted(line, alloc, fields),
     }
 }
 
