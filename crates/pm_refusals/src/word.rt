@@ -81,8 +81,6 @@ pub enum Word {
     Read,
     /// The plan could do more work than is allowed.
     TooWide,
-    /// The statement is read, but not run yet.
-    NotBuilt,
 }
 
 impl Word {
@@ -130,7 +128,6 @@ impl Word {
             Word::NoFile => "nofile",
             Word::Read => "read",
             Word::TooWide => "toowide",
-            Word::NotBuilt => "notbuilt",
         }
     }
 }
