@@ -247,7 +247,7 @@ struct Meeting {
 
 fn meet(mine: &AtomicU64, other: &AtomicU64, missed: &AtomicU64) {
     let count = mine.fetch_add(1, Ordering::SeqCst).wrapping_add(1);
-    for _ in 0..100_000_000u32 {
+    for _ in 0..2_000_000_000u32 {
         if other.load(Ordering::SeqCst) >= count {
             return;
         }
