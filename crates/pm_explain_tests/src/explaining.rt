@@ -94,7 +94,7 @@ fn explain<R: Threads + Sync>(
 }
 
 /// What `explain` writes of a query with this choice of joins, and nothing where it is refused.
-pub fn explained<R: Threads + Sync>(
+pub(crate) fn explained<R: Threads + Sync>(
     rt: &R,
     alloc: Global,
     join: &str,
